@@ -1,0 +1,14 @@
+-- What the code's answers mean in document 01's terms.
+use Prim.Native.Nat.{ℕ}
+use Rattle.maps.specs.Number.{Got, got, refusal}
+use Rattle.maps.specs.Code.{numberOf, placeOf}
+use Rattle.maps.specs.declared.Refusal.{Refusal}
+use Rattle.number.specs.declared.Number.{Number}
+use Rattle.number.specs.declared.Number.the-variants.{Value, Refused}
+
+abbrev pub refusalMeant : {A : Type 0} → Refusal → Got A
+refusalMeant w = refusal (numberOf w) (placeOf w)
+
+abbrev pub numberMeant : Number → Got ℕ
+numberMeant (Value v next) = got v (next .at)
+numberMeant (Refused w) = refusalMeant w

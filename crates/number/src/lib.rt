@@ -1,0 +1,97 @@
+// Numbers of a sheet, read at a cursor, and the ranges of the fields that they fill.
+ghost use mathlib.Core.Path.{_≡_};
+ghost use lib.ListN.{length};
+ghost use Rattle.maps.specs.Number.{number, refusal};
+ghost use Rattle.maps.specs.Read.{ranged, operand};
+ghost use Rattle.number.specs.Code.{numberMeant};
+use maps::Refusal;
+
+mod ranges;
+
+pub use ranges::Ranges;
+pub use ranges::Span;
+pub use ranges::header_range;
+pub use ranges::ranges_of;
+
+// A position in the sheet.
+pub struct Cursor {
+    pub at: usize,
+}
+
+// What reading a number gives: the value with the next position, or the refusal.
+pub enum Number {
+    Value { value: u32, next: Cursor },
+    Refused(Refusal),
+}
+
+// Ground 1, wherever the sheet ends too early.
+fn ended(sheet: &[u8]) -> Number
+    ensures { λ r. ⌜ numberMeant r ≡ refusal 1 (length (now (sheet .entry))) ⌝ }
+{
+    Number::Refused(Refusal::Ended(sheet.len()))
+}
+
+// The number at a cursor.
+pub fn number_at(sheet: &[u8], c: Cursor) -> Number
+    ensures { λ r. ⌜ numberMeant r ≡ number (now (sheet .entry)) (c .at) ⌝ }
+{
+    let at = c.at;
+    if sheet.len() <= at {
+        return ended(sheet);
+    }
+    let low = sheet[at] as u32;
+    let after = at + 1;
+    if low < 128 {
+        return Number::Value {
+            value: low,
+            next: Cursor { at: after },
+        };
+    }
+    if sheet.len() <= after {
+        return ended(sheet);
+    }
+    let high = sheet[after] as u32;
+    if 128 <= high {
+        return Number::Refused(Refusal::Spelling(at));
+    }
+    if high == 0 {
+        return Number::Refused(Refusal::Spelling(at));
+    }
+    let value = low - 128 + 128 * high;
+    let end = after + 1;
+    Number::Value {
+        value,
+        next: Cursor { at: end },
+    }
+}
+
+// The number at a cursor, from low to high.
+pub fn field(sheet: &[u8], c: Cursor, low: u32, high: u32) -> Number
+    ensures { λ r. ⌜ numberMeant r ≡ ranged low high (now (sheet .entry)) (c .at) ⌝ }
+{
+    let read = number_at(sheet, c);
+    let Number::Value { value, next: _ } = read else {
+        return read;
+    };
+    if value < low {
+        return Number::Refused(Refusal::Range(c.at));
+    }
+    if high < value {
+        return Number::Refused(Refusal::Range(c.at));
+    }
+    read
+}
+
+// The operand at a cursor, of the node own.
+pub fn operand_at(sheet: &[u8], c: Cursor, own: u32) -> Number
+    ensures { λ r. ⌜ numberMeant r ≡ operand own (now (sheet .entry)) (c .at) ⌝ }
+{
+    let id = number_at(sheet, c);
+    let Number::Value { value, next: _ } = id else {
+        return id;
+    };
+    if value < own {
+        return id;
+    }
+    Number::Refused(Refusal::Operand(c.at))
+}

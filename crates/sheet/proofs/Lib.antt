@@ -1,0 +1,5 @@
+pub mod Stores
+pub mod Turns
+pub mod Reading
+pub mod Rows
+pub mod Tables

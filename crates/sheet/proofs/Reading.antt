@@ -1,0 +1,195 @@
+-- Reading into tables of zeros ends as the definition's reading does, and leaves there the tables of the sheet.
+use Prim.Native.Nat.{ℕ, zero, suc, _+_}
+use mathlib.Core.Path.{_≡_, refl, sym, subst, ap, _∙_}
+use mathlib.Core.Bool.{Bool, true, false, cond}
+use mathlib.Core.List.{List, [], _∷_, map}
+use native.Mathlib.Omega.{arith}
+use lib.Dec.{ltb}
+use lib.ListN.{length, set, replicate}
+use Rattle.maps.specs.Number.{Got, got, refusal, Reader, andThen}
+use Rattle.maps.specs.Sheet.{Sheet, Node, Difference}
+use Rattle.maps.specs.Read.{operand, eachFrom, times, Head, nodeOf, readHead, readNode, readDifference, Header, readHeader, sheetOf, readSheet, Parsed, sheet, refused, whole, parse}
+use Rattle.maps.proofs.Parse.{counted}
+use Rattle.sheet.specs.Table.{nodeRow, headRow, differenceRow, storeFrom, storeRows, nodePlace, differencePlace, graphOf, differencesOf, headerOf, Answer, header, answerNumber, answerPlace, Tables, tables, readAfter}
+use Rattle.sheet.specs.Table as Table
+use Rattle.sheet.specs.Fill.{Filled, filled, gotOn, fillOn, repeatInto, operandInto, operandsInto, nodeInto, nodesInto, differenceInto, differencesInto, tablesInto}
+
+-- a table is filled as a reader reads: both end alike, and where they go on the table is what `put` makes of the value
+data Fills {A : Type 0} (put : A → List ℕ) : Got A → Filled → Type 0 where
+  went : {a : A} {next : ℕ} → Fills put (got a next) (filled (got tt next) (put a))
+  stopped : {k p : ℕ} {g : List ℕ} → Fills put (refusal k p) (filled (refusal k p) g)
+
+-- what is read goes to one row
+one-row : {A : Type 0} (row : A → List ℕ) (p : ℕ) (g : List ℕ) (x : Got A)
+    → Fills (λ a. storeFrom g p (row a)) x (fillOn x g (λ a next. filled (got tt next) (storeFrom g p (row a))))
+unfolding gotOn
+one-row row p g (got a next) = went
+one-row row p g (refusal k q) = stopped
+
+fills-map : {A B : Type 0} {put : B → List ℕ} (f : A → B) (x : Got A) (t : Filled) → Fills (λ a. put (f a)) x t
+    → Fills put (andThen x (λ a next. got (f a) next)) t
+fills-map f (got a next) t went = went
+fills-map f (refusal k p) t stopped = stopped
+
+-- row after row
+module _ {A : Type 0} (row : A → List ℕ) (place : ℕ → ℕ) (s : List ℕ) (r : ℕ → Reader A) (step : ℕ → ℕ → List ℕ → Filled)
+    (each : (i at : ℕ) (g : List ℕ) → Fills (λ a. storeFrom g (place i) (row a)) (r i s at) (step i at g)) where
+  all-rows : (n i at : ℕ) (g : List ℕ) → Fills (λ xs. storeRows place g i (map row xs)) (eachFrom r i n s at) (repeatInto step n i at g)
+  unfolding repeatInto gotOn storeRows
+  all-rows zero i at g = went
+  all-rows (suc n) i at g = go (r i s at) (step i at g) (all-rows n (i + 1)) (each i at g)
+    where
+      go : (x : Got A) (t : Filled)
+          → ((next : ℕ) (h : List ℕ) → Fills (λ xs. storeRows place h (i + 1) (map row xs)) (eachFrom r (i + 1) n s next) (repeatInto step n (i + 1) next h))
+          → Fills (λ a. storeFrom g (place i) (row a)) x t
+          → Fills (λ xs. storeRows place g i (map row xs))
+          (andThen x (λ a next. andThen (eachFrom r (i + 1) n s next) (λ rest last. got (a ∷ rest) last)))
+          (gotOn (t .end) (λ k p. filled (refusal k p) (t .table)) (λ u next. repeatInto step n (i + 1) next (t .table)))
+      go (got a next) t rest went = fills-map (λ xs. a ∷ xs) _ _ (rest next (storeFrom g (place i) (row a)))
+      go (refusal k p) t rest stopped = stopped
+
+-- operands, one a row, are stored one after the other
+singles : (b i : ℕ) (g us : List ℕ) → storeRows (λ j. b + j) g i (map (λ u. u ∷ []) us) ≡ storeFrom g (b + i) us
+unfolding storeRows storeFrom
+singles b i g [] = refl
+singles b i g (u ∷ us) =
+    let e : b + (i + 1) ≡ b + i + 1 = omega arith in
+    singles b (i + 1) (set g (b + i) u) us ∙ rw e
+
+-- the operands go behind the head
+behind : (g : List ℕ) (p : ℕ) (h : Head) (us : List ℕ) → length us ≡ h .count → storeFrom (storeFrom g p (headRow h)) (p + 5 + 0) us ≡ storeFrom g p (nodeRow (nodeOf h us))
+unfolding storeFrom
+behind g p h us e =
+    let five : p + 1 + 1 + 1 + 1 + 1 ≡ p + 5 + 0 = omega arith in
+    rw (five, e)
+
+module _ (s : List ℕ) where
+  operands-filled : (own base count at : ℕ) (g : List ℕ)
+      → Fills (λ us. storeRows (λ j. base + j) g 0 (map (λ u. u ∷ []) us)) (times count (operand own) s at) (operandsInto s own base count at g)
+  operands-filled own base count at g =
+      all-rows (λ u. u ∷ []) (λ j. base + j) s (λ i. operand own) (operandInto s own base)
+      (λ i at h. unfold operandInto in one-row (λ u. u ∷ []) (base + i) h (operand own s at)) count 0 at g
+
+  node-filled : (top own at : ℕ) (g : List ℕ) → Fills (λ v. storeFrom g (nodePlace own) (nodeRow v)) (readNode top own s at) (nodeInto s top own at g)
+  unfolding readNode nodeInto gotOn
+  node-filled top own at g = go (readHead top s at)
+    where
+      tail : (h : Head) (next : ℕ) (x : Got (List ℕ)) (t : Filled) → times (h .count) (operand own) s next ≡ x
+          → Fills (λ us. storeRows (λ j. nodePlace own + 5 + j) (storeFrom g (nodePlace own) (headRow h)) 0 (map (λ u. u ∷ []) us)) x t
+          → Fills (λ v. storeFrom g (nodePlace own) (nodeRow v)) (andThen x (λ us last. got (nodeOf h us) last)) t
+      tail h next (got us last) t e went =
+          subst (λ (l : List ℕ). Fills (λ v. storeFrom g (nodePlace own) (nodeRow v)) (got (nodeOf h us) last) (filled (got tt last) l))
+          (sym (singles (nodePlace own + 5) 0 (storeFrom g (nodePlace own) (headRow h)) us ∙ behind g (nodePlace own) h us (counted _ _ _ s next us last e)))
+          went
+      tail h next (refusal k p) t e stopped = stopped
+
+      go : (x : Got Head) → Fills (λ v. storeFrom g (nodePlace own) (nodeRow v))
+          (andThen x (λ h next. andThen (times (h .count) (operand own) s next) (λ us last. got (nodeOf h us) last)))
+          (fillOn x g (λ h next. operandsInto s own (nodePlace own + 5) (h .count) next (storeFrom g (nodePlace own) (headRow h))))
+      go (got h next) = tail h next _ _ refl (operands-filled own (nodePlace own + 5) (h .count) next (storeFrom g (nodePlace own) (headRow h)))
+      go (refusal k p) = stopped
+
+  nodes-filled : (top n at : ℕ) (g : List ℕ)
+      → Fills (λ vs. storeRows nodePlace g 0 (map nodeRow vs)) (eachFrom (readNode top) 0 n s at) (nodesInto s top n at g)
+  nodes-filled top n at g = all-rows nodeRow nodePlace s (readNode top) (nodeInto s top) (λ own at h. node-filled top own at h) n 0 at g
+
+  differences-filled : (n m at : ℕ) (d : List ℕ)
+      → Fills (λ ds. storeRows differencePlace d 0 (map differenceRow ds)) (times m (readDifference n) s at) (differencesInto s n m at d)
+  differences-filled n m at d =
+      all-rows differenceRow differencePlace s (λ i. readDifference n) (differenceInto s n)
+      (λ i at h. unfold differenceInto in one-row differenceRow (differencePlace i) h (readDifference n s at)) m 0 at d
+
+-- what reading into tables of zeros leaves, against what the definition reads
+data Tied : Parsed → Tables → Type 0 where
+  read : {S : Sheet} → Tied (sheet S) (tables (header (headerOf S)) (graphOf S) (differencesOf S))
+  none : {k p : ℕ} {g d : List ℕ} → Tied (refused k p) (tables (Table.refusal k p) g d)
+
+module _ (s : List ℕ) where
+  abbrev noNodes : List ℕ
+  noNodes = replicate 3072 0
+
+  abbrev noDifferences : List ℕ
+  noDifferences = replicate 4096 0
+
+  -- ground 5, or the sheet
+  ended : (h : Header) (vs : List Node) (ds : List Difference) (last : ℕ) → length vs ≡ h .nodes → length ds ≡ h .differences
+      → Tied (whole s (got (sheetOf h vs ds) last))
+      (tables (cond (ltb last (length s)) (Table.refusal 5 last) (header h))
+      (storeRows nodePlace noNodes 0 (map nodeRow vs)) (storeRows differencePlace noDifferences 0 (map differenceRow ds)))
+  unfolding graphOf differencesOf
+  ended h vs ds last ev ed = go (ltb last (length s))
+    where
+      same : headerOf (sheetOf h vs ds) ≡ h
+      same = λ i. record { leaves = h .leaves; top = h .top; horizon = h .horizon; nodes = ev i; differences = ed i }
+
+      go : (b : Bool) → Tied (cond b (refused 5 last) (sheet (sheetOf h vs ds)))
+          (tables (cond b (Table.refusal 5 last) (header h)) (storeRows nodePlace noNodes 0 (map nodeRow vs)) (storeRows differencePlace noDifferences 0 (map differenceRow ds)))
+      go true = none
+      go false =
+          subst (λ (k : Header). Tied (sheet (sheetOf h vs ds)) (tables (header k) (graphOf (sheetOf h vs ds)) (differencesOf (sheetOf h vs ds)))) same read
+
+  after-nodes : (h : Header) (vs : List Node) (next : ℕ) → length vs ≡ h .nodes → (x : Got (List Difference)) (t : Filled)
+      → times (h .differences) (readDifference (h .nodes)) s next ≡ x
+      → Fills (λ ds. storeRows differencePlace noDifferences 0 (map differenceRow ds)) x t
+      → Tied (whole s (andThen x (λ ds last. got (sheetOf h vs ds) last)))
+      (gotOn (t .end) (λ k p. tables (Table.refusal k p) (storeRows nodePlace noNodes 0 (map nodeRow vs)) (t .table))
+      (λ w last. tables (cond (ltb last (length s)) (Table.refusal 5 last) (header h)) (storeRows nodePlace noNodes 0 (map nodeRow vs)) (t .table)))
+  unfolding gotOn
+  after-nodes h vs next ev (got ds last) t e went = ended h vs ds last ev (counted _ _ _ s next ds last e)
+  after-nodes h vs next ev (refusal k p) t e stopped = none
+
+  after-header : (h : Header) (at : ℕ) (x : Got (List Node)) (t : Filled) → eachFrom (readNode (h .top)) 0 (h .nodes) s at ≡ x
+      → Fills (λ vs. storeRows nodePlace noNodes 0 (map nodeRow vs)) x t
+      → Tied (whole s (andThen x (λ vs next. andThen (times (h .differences) (readDifference (h .nodes)) s next) (λ ds last. got (sheetOf h vs ds) last))))
+      (gotOn (t .end) (λ k p. tables (Table.refusal k p) (t .table) noDifferences) (λ u next.
+      gotOn (differencesInto s (h .nodes) (h .differences) next noDifferences .end)
+      (λ k p. tables (Table.refusal k p) (t .table) (differencesInto s (h .nodes) (h .differences) next noDifferences .table))
+      (λ w last. tables (cond (ltb last (length s)) (Table.refusal 5 last) (header h)) (t .table) (differencesInto s (h .nodes) (h .differences) next noDifferences .table))))
+  unfolding gotOn
+  after-header h at (got vs next) t e went =
+      after-nodes h vs next (counted _ _ _ s at vs next e) _ _ refl (differences-filled s (h .nodes) (h .differences) next noDifferences)
+  after-header h at (refusal k p) t e stopped = none
+
+  tied : Tied (parse s) (tablesInto s noNodes noDifferences)
+  unfolding parse readSheet tablesInto gotOn
+  tied = go (readHeader s 0)
+    where
+      go : (x : Got Header) → Tied
+          (whole s (andThen x (λ h at. andThen (eachFrom (readNode (h .top)) 0 (h .nodes) s at) (λ vs next.
+          andThen (times (h .differences) (readDifference (h .nodes)) s next) (λ ds last. got (sheetOf h vs ds) last)))))
+          (gotOn x (λ k p. tables (Table.refusal k p) noNodes noDifferences) (λ h at.
+          gotOn (nodesInto s (h .top) (h .nodes) at noNodes .end)
+          (λ k p. tables (Table.refusal k p) (nodesInto s (h .top) (h .nodes) at noNodes .table) noDifferences) (λ u next.
+          gotOn (differencesInto s (h .nodes) (h .differences) next noDifferences .end)
+          (λ k p. tables (Table.refusal k p) (nodesInto s (h .top) (h .nodes) at noNodes .table) (differencesInto s (h .nodes) (h .differences) next noDifferences .table))
+          (λ w last. tables (cond (ltb last (length s)) (Table.refusal 5 last) (header h)) (nodesInto s (h .top) (h .nodes) at noNodes .table) (differencesInto s (h .nodes) (h .differences) next noDifferences .table)))))
+      go (got h at) = after-header h at _ _ refl (nodes-filled s (h .top) (h .nodes) at noNodes)
+      go (refusal k p) = none
+
+  -- the answer was a header: the tables are the sheet's
+  pub read-whole : (a : Answer) (g d : List ℕ) → tables a g d ≡ tablesInto s noNodes noDifferences → (h : Header) → a ≡ header h
+      → (g₀ d₀ : List ℕ) → tables a g d ≡ readAfter (parse s) g₀ d₀
+  read-whole a g d e h q g₀ d₀ = go (parse s) (tablesInto s noNodes noDifferences) tied e
+    where
+      go : (x : Parsed) (t : Tables) → Tied x t → tables a g d ≡ t → tables a g d ≡ readAfter x g₀ d₀
+      go (sheet S) t read f = f
+      go (refused k p) t none f = let z : _≡_ {A = ℕ} 0 1 = cc (ap (λ (t : Tables). t .answer) f) in absurd (omega arith)
+
+  -- the answer was a refusal: it is the definition's
+  pub read-refused : (a : Answer) (g d : List ℕ) → tables a g d ≡ tablesInto s noNodes noDifferences → (k p : ℕ) → a ≡ Table.refusal k p
+      → (g₀ d₀ : List ℕ) → tables a g₀ d₀ ≡ readAfter (parse s) g₀ d₀
+  read-refused a g d e k p q g₀ d₀ = go (parse s) (tablesInto s noNodes noDifferences) tied e
+    where
+      go : (x : Parsed) (t : Tables) → Tied x t → tables a g d ≡ t → tables a g₀ d₀ ≡ readAfter x g₀ d₀
+      go (sheet S) t read f = let z : _≡_ {A = ℕ} 0 1 = cc (ap (λ (t : Tables). t .answer) f) in absurd (omega arith)
+      go (refused j r) t none f = ap (λ (b : Answer). tables b g₀ d₀) (ap (λ (t : Tables). t .answer) f)
+
+-- equal answers and tables, part by part
+pub exported : (a : Answer) (g d : List ℕ) (t : Tables) → tables a g d ≡ t
+    → (answerNumber a ≡ answerNumber (t .answer)) × (answerPlace a ≡ answerPlace (t .answer)) × (g ≡ t .graph) × (d ≡ t .differences)
+exported a g d t e = (
+  ap (λ (x : Tables). answerNumber (x .answer)) e,
+  ap (λ (x : Tables). answerPlace (x .answer)) e,
+  ap (λ (x : Tables). x .graph) e,
+  ap (λ (x : Tables). x .differences) e,
+)

@@ -1,0 +1,27 @@
+-- `sheet::maps_read` meets its contract.
+use borrow.Author.Needs.{needs}
+use Rattle.sheet.proofs.Reading.{exported}
+use Rattle.sheet.proofs.export.maps_read.Statement.{statement}
+use Rattle.sheet.proofs.export.maps_read.Tie as tie
+
+returns : tie.Need-returns
+returns c = exported _ _ _ _ (rw (c .enum-told .given .1) at (c .before .before .read-sheet .ensures))
+
+returns-2 : tie.Need-returns-2
+returns-2 c =
+    let p = c .before .before in
+    let e = rw (p .before .reading .given .1) at (p .before .before .before .read-sheet .ensures) in
+    rw (c .before .number .ensures, c .place .ensures) (exported _ _ _ _ e)
+
+pub maps-read-spec : {M : Type 1} → statement M
+maps-read-spec =
+    tie.close
+    (tie.spec
+    (λ c κs. search needs)
+    (λ c. search needs)
+    (λ c. search needs)
+    returns
+    (λ c κs. search needs)
+    (λ c. search needs)
+    (λ c κs. search needs)
+    returns-2)

@@ -1,0 +1,78 @@
+-- What the code's answers mean in document 01's terms.
+use Rattle.maps.specs.Number.{Got, got}
+use Rattle.maps.specs.Sheet.{Difference}
+use Rattle.maps.specs.Read.{Head, Header}
+use Rattle.maps.specs.Code.{kindMeant, numberOf, placeOf}
+use Rattle.maps.specs.declared.Node as N
+use Rattle.maps.specs.declared.Refusal.{Refusal}
+use Rattle.maps.specs.declared.Refusal.the-variants.{Ended}
+use Rattle.sheet.specs.Table.{Answer, header}
+use Rattle.sheet.specs.Table as Table
+use Rattle.number.specs.Code.{refusalMeant}
+use Rattle.number.specs.declared.Number.{Number}
+use Rattle.number.specs.declared.Number.the-variants.{Value, Refused}
+use Rattle.sheet.specs.declared.fill.Progress.{Progress}
+use Rattle.sheet.specs.declared.fill.Progress.the-variants as P
+use Rattle.sheet.specs.declared.node.HeadRead.{HeadRead}
+use Rattle.sheet.specs.declared.node.HeadRead.the-variants as H
+use Rattle.sheet.specs.declared.node.Wish as W
+use Rattle.sheet.specs.declared.node.WishRead.{WishRead}
+use Rattle.sheet.specs.declared.node.WishRead.the-variants as D
+use Rattle.sheet.specs.declared.reader.Header as R
+use Rattle.sheet.specs.declared.reader.HeaderRead.{HeaderRead}
+use Rattle.sheet.specs.declared.reader.HeaderRead.the-variants as O
+use Rattle.sheet.specs.declared.reader.Reading.{Reading}
+use Rattle.sheet.specs.declared.reader.Reading.the-variants as A
+
+-- the refusal of a number that was not read
+abbrev pub refusalIn : Number → Refusal
+refusalIn (Value v next) = Ended 0
+refusalIn (Refused w) = w
+
+abbrev pub headMeant : N.Node → Head
+headMeant v = record { kind = kindMeant (v .kind); output = v .output; delay = v .delay .0; count = v .operands }
+
+abbrev pub headRead : HeadRead → Got Head
+headRead (H.Head v next) = got (headMeant v) (next .at)
+headRead (H.Refused w) = refusalMeant w
+
+abbrev pub differenceMeant : W.Wish → Difference
+differenceMeant d = record { from = d .from; to = d .to; plus = d .plus; minus = d .minus }
+
+abbrev pub differenceRead : WishRead → Got Difference
+differenceRead (D.Difference d next) = got (differenceMeant d) (next .at)
+differenceRead (D.Refused w) = refusalMeant w
+
+abbrev pub progressMeant : Progress → Got (Unit {0})
+progressMeant (P.Next next) = got tt (next .at)
+progressMeant (P.Refused w) = refusalMeant w
+
+-- the refusal of a head or a difference that was not read
+abbrev pub headRefusal : HeadRead → Progress
+headRefusal (H.Head v next) = P.Refused (Ended 0)
+headRefusal (H.Refused w) = P.Refused w
+
+abbrev pub wishRefusal : WishRead → Progress
+wishRefusal (D.Difference d next) = P.Refused (Ended 0)
+wishRefusal (D.Refused w) = P.Refused w
+
+abbrev pub headerMeant : R.Header → Header
+headerMeant h = record { leaves = h .leaves; top = h .top; horizon = h .horizon; nodes = h .nodes; differences = h .differences }
+
+abbrev pub headerRead : HeaderRead → Got Header
+headerRead (O.Header h next) = got (headerMeant h) (next .at)
+headerRead (O.Refused w) = refusalMeant w
+
+-- the refusal of a header, a node or a difference that was not read
+abbrev pub headerRefusal : HeaderRead → Reading
+headerRefusal (O.Header h next) = A.Refused (Ended 0)
+headerRefusal (O.Refused w) = A.Refused w
+
+abbrev pub progressRefusal : Progress → Reading
+progressRefusal (P.Next next) = A.Refused (Ended 0)
+progressRefusal (P.Refused w) = A.Refused w
+
+-- what reading a sheet answers
+abbrev pub answerMeant : Reading → Answer
+answerMeant (A.Sheet h) = header (headerMeant h)
+answerMeant (A.Refused w) = Table.refusal (numberOf w) (placeOf w)

@@ -1,0 +1,70 @@
+-- Reading into a table, step by step as the code does it: how it ends, and the table then, also where it is refused on the way.
+use Prim.Native.Nat.{ℕ, zero, suc, _+_}
+use mathlib.Core.Bool.{cond}
+use mathlib.Core.List.{List, [], _∷_}
+use lib.Dec.{ltb}
+use lib.ListN.{length}
+use Rattle.maps.specs.Number.{Got, got, refusal}
+use Rattle.maps.specs.Read.{operand, readHead, readDifference, readHeader}
+use Rattle.sheet.specs.Table.{storeFrom, headRow, differenceRow, nodePlace, differencePlace, header, Tables, tables}
+use Rattle.sheet.specs.Table as Table
+
+pub record Filled : Type 0 where
+  pub end : Got (Unit {0})
+  pub table : List ℕ
+
+abbrev pub filled : Got (Unit {0}) → List ℕ → Filled
+filled e g = record { end = e; table = g }
+
+-- after what was read, on with k; after a refusal, what `stop` gives
+unfoldable pub gotOn : {A B : Type 0} → Got A → (stop : ℕ → ℕ → B) → (k : A → ℕ → B) → B
+gotOn (got a next) stop k = k a next
+gotOn (refusal j p) stop k = stop j p
+
+-- the same where a table is filled: a refusal leaves the table g
+abbrev pub fillOn : {A : Type 0} → Got A → List ℕ → (A → ℕ → Filled) → Filled
+fillOn x g k = gotOn x (λ j p. filled (refusal j p) g) k
+
+-- `step` at i, i + 1, .., n times, each from where the one before ended
+unfoldable pub repeatInto : (step : ℕ → ℕ → List ℕ → Filled) → (n i at : ℕ) → List ℕ → Filled
+unfolding gotOn
+repeatInto step zero i at g = filled (got tt at) g
+repeatInto step (suc n) i at g = fillOn (step i at g .end) (step i at g .table) (λ u next. repeatInto step n (i + 1) next (step i at g .table))
+
+module _ (s : List ℕ) where
+  -- the operand i of the node own goes to base + i
+  unfoldable pub operandInto : (own base i at : ℕ) → List ℕ → Filled
+  unfolding gotOn storeFrom
+  operandInto own base i at g = fillOn (operand own s at) g (λ u next. filled (got tt next) (storeFrom g (base + i) (u ∷ [])))
+
+  abbrev pub operandsInto : (own base count at : ℕ) → List ℕ → Filled
+  operandsInto own base count at g = repeatInto (operandInto own base) count 0 at g
+
+  -- the node own goes to its row
+  unfoldable pub nodeInto : (top own at : ℕ) → List ℕ → Filled
+  unfolding gotOn storeFrom
+  nodeInto top own at g =
+      fillOn (readHead top s at) g (λ h next. operandsInto own (nodePlace own + 5) (h .count) next (storeFrom g (nodePlace own) (headRow h)))
+
+  abbrev pub nodesInto : (top n at : ℕ) → List ℕ → Filled
+  nodesInto top n at g = repeatInto (nodeInto top) n 0 at g
+
+  -- the difference i goes to its row
+  unfoldable pub differenceInto : (n i at : ℕ) → List ℕ → Filled
+  unfolding gotOn storeFrom
+  differenceInto n i at g =
+      fillOn (readDifference n s at) g (λ d next. filled (got tt next) (storeFrom g (differencePlace i) (differenceRow d)))
+
+  abbrev pub differencesInto : (n m at : ℕ) → List ℕ → Filled
+  differencesInto n m at g = repeatInto (differenceInto n) m 0 at g
+
+  -- a whole sheet into two tables
+  unfoldable pub tablesInto : (graph differences : List ℕ) → Tables
+  unfolding gotOn
+  tablesInto g d =
+      gotOn (readHeader s 0) (λ k p. tables (Table.refusal k p) g d) (λ h at.
+      let ns = nodesInto (h .top) (h .nodes) at g in
+      gotOn (ns .end) (λ k p. tables (Table.refusal k p) (ns .table) d) (λ u next.
+      let ds = differencesInto (h .nodes) (h .differences) next d in
+      gotOn (ds .end) (λ k p. tables (Table.refusal k p) (ns .table) (ds .table)) (λ w last.
+      tables (cond (ltb last (length s)) (Table.refusal 5 last) (header h)) (ns .table) (ds .table))))

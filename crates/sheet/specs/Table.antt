@@ -1,0 +1,149 @@
+-- The two tables that a sheet is read into: twelve numbers for a node, four for a difference, and 0 elsewhere.
+use Prim.Native.Nat.{ℕ, _+_, _*_, _≤_, _<_}
+use mathlib.Core.Path.{_≡_}
+use mathlib.Core.Bool.{Bool, cond}
+use mathlib.Core.List.{List, [], _∷_, map}
+use lib.ListN.{length, getD, set, replicate}
+use Rattle.maps.specs.Sheet.{Sheet, Node, Difference, size, node, latency, latencyOf}
+use Rattle.maps.specs.Read.{Head, Header, Parsed, sheet, refused}
+use Rattle.maps.specs.WellFormed.{codeOf}
+
+abbrev pub nodeStride : ℕ
+nodeStride = 12
+
+abbrev pub differenceStride : ℕ
+differenceStride = 4
+
+abbrev pub markOf : Bool → ℕ
+markOf b = cond b 1 0
+
+-- kind, output mark, d, lat, operand count
+abbrev pub headRow : Head → List ℕ
+headRow h = codeOf (h .kind) ∷ markOf (h .output) ∷ h .delay ∷ latencyOf (h .kind) ∷ h .count ∷ []
+
+-- the same and the operands
+abbrev pub nodeRow : Node → List ℕ
+nodeRow v = codeOf (v .kind) ∷ markOf (v .output) ∷ v .delay ∷ latencyOf (v .kind) ∷ length (v .operands) ∷ v .operands
+
+abbrev pub differenceRow : Difference → List ℕ
+differenceRow d = d .from ∷ d .to ∷ d .plus ∷ d .minus ∷ []
+
+-- the numbers at p, p + 1, ..
+unfoldable pub storeFrom : (table : List ℕ) → (p : ℕ) → List ℕ → List ℕ
+storeFrom g p [] = g
+storeFrom g p (x ∷ xs) = storeFrom (set g p x) (p + 1) xs
+
+-- the rows i, i + 1, .., each from its place on
+unfoldable pub storeRows : (place : ℕ → ℕ) → (table : List ℕ) → (i : ℕ) → List (List ℕ) → List ℕ
+unfolding storeFrom
+storeRows place g i [] = g
+storeRows place g i (r ∷ rs) = storeRows place (storeFrom g (place i) r) (i + 1) rs
+
+abbrev pub nodePlace : ℕ → ℕ
+nodePlace v = v * nodeStride
+
+abbrev pub differencePlace : ℕ → ℕ
+differencePlace i = i * differenceStride
+
+-- the table of a sheet's nodes, and that of its differences
+unfoldable pub graphOf : Sheet → List ℕ
+unfolding storeRows
+graphOf S = storeRows nodePlace (replicate 3072 0) 0 (map nodeRow (S .nodes))
+
+unfoldable pub differencesOf : Sheet → List ℕ
+unfolding storeRows
+differencesOf S = storeRows differencePlace (replicate 4096 0) 0 (map differenceRow (S .differences))
+
+-- what stands in the table of nodes at node v
+module _ (g : List ℕ) (v : ℕ) where
+  abbrev pub kindIn : ℕ
+  kindIn = getD g (v * nodeStride) 0
+
+  abbrev pub markIn : ℕ
+  markIn = getD g (v * nodeStride + 1) 0
+
+  abbrev pub delayIn : ℕ
+  delayIn = getD g (v * nodeStride + 2) 0
+
+  abbrev pub latencyIn : ℕ
+  latencyIn = getD g (v * nodeStride + 3) 0
+
+  abbrev pub countIn : ℕ
+  countIn = getD g (v * nodeStride + 4) 0
+
+  abbrev pub operandIn : ℕ → ℕ
+  operandIn j = getD g (v * nodeStride + 5 + j) 0
+
+-- the table g holds the nodes of S: at every id below 256 the node's numbers, and 0 where the sheet has no node
+pub record Tabled (S : Sheet) (g : List ℕ) : Type 0 where
+  pub wide : length g ≡ 3072
+  pub kinds : (v : ℕ) → v < 256 → kindIn g v ≡ codeOf (node S v .kind)
+  pub marks : (v : ℕ) → v < 256 → markIn g v ≡ markOf (node S v .output)
+  pub delays : (v : ℕ) → v < 256 → delayIn g v ≡ node S v .delay
+  pub latencies : (v : ℕ) → v < 256 → latencyIn g v ≡ latency S v
+  pub counts : (v : ℕ) → v < 256 → countIn g v ≡ length (node S v .operands)
+  pub operands : (v j : ℕ) → v < 256 → j < length (node S v .operands) → operandIn g v j ≡ getD (node S v .operands) j 0
+
+-- what stands in the table of differences at difference i
+module _ (d : List ℕ) (i : ℕ) where
+  abbrev pub fromIn : ℕ
+  fromIn = getD d (i * differenceStride) 0
+
+  abbrev pub toIn : ℕ
+  toIn = getD d (i * differenceStride + 1) 0
+
+  abbrev pub plusIn : ℕ
+  plusIn = getD d (i * differenceStride + 2) 0
+
+  abbrev pub minusIn : ℕ
+  minusIn = getD d (i * differenceStride + 3) 0
+
+abbrev pub noDifference : Difference
+noDifference = record { from = 0; to = 0; plus = 0; minus = 0 }
+
+abbrev pub differenceAt : Sheet → ℕ → Difference
+differenceAt S i = getD (S .differences) i noDifference
+
+-- the table d holds the differences of S
+pub record Listed (S : Sheet) (d : List ℕ) : Type 0 where
+  pub wide : length d ≡ 4096
+  pub froms : (i : ℕ) → i < length (S .differences) → fromIn d i ≡ differenceAt S i .from
+  pub tos : (i : ℕ) → i < length (S .differences) → toIn d i ≡ differenceAt S i .to
+  pub pluses : (i : ℕ) → i < length (S .differences) → plusIn d i ≡ differenceAt S i .plus
+  pub minuses : (i : ℕ) → i < length (S .differences) → minusIn d i ≡ differenceAt S i .minus
+
+-- what code that walks the table rests on: few operands, each below its node
+pub record Falling (g : List ℕ) : Type 0 where
+  pub few : (v : ℕ) → v < 256 → countIn g v ≤ 6
+  pub falls : (v j : ℕ) → v < 256 → j < countIn g v → operandIn g v j < v
+
+abbrev pub headerOf : Sheet → Header
+headerOf S = record { leaves = S .leaves; top = S .top; horizon = S .horizon; nodes = size S; differences = length (S .differences) }
+
+-- what reading answers
+pub data Answer : Type 0 where
+  header : Header → Answer
+  refusal : (number place : ℕ) → Answer
+
+-- as number and place: 0 and 0 where the sheet reads
+abbrev pub answerNumber : Answer → ℕ
+answerNumber (header h) = 0
+answerNumber (refusal k p) = k
+
+abbrev pub answerPlace : Answer → ℕ
+answerPlace (header h) = 0
+answerPlace (refusal k p) = p
+
+-- the answer and the two tables
+pub record Tables : Type 0 where
+  pub answer : Answer
+  pub graph : List ℕ
+  pub differences : List ℕ
+
+abbrev pub tables : Answer → List ℕ → List ℕ → Tables
+tables a g d = record { answer = a; graph = g; differences = d }
+
+-- after reading: the sheet's header and tables; or the refusal, and the tables as they were
+abbrev pub readAfter : Parsed → (graph differences : List ℕ) → Tables
+readAfter (sheet S) g d = tables (header (headerOf S)) (graphOf S) (differencesOf S)
+readAfter (refused k p) g d = tables (refusal k p) g d

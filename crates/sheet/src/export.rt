@@ -1,0 +1,37 @@
+// The reader for callers in C and Rust.
+ghost use mathlib.Core.Path.{_≡_};
+ghost use Rattle.maps.specs.Read.{parse};
+ghost use Rattle.sheet.specs.Table.{readAfter, answerNumber, answerPlace};
+use crate::reader::Reading;
+use crate::reader::read_sheet;
+
+// Document 01's number and place; 0 and 0 where the sheet reads.
+#[repr(C)]
+pub struct ReadAnswer {
+    pub number: u64,
+    pub place: u64,
+}
+
+#[no_mangle]
+pub extern "C" fn maps_read(
+    sheet: &[u8],
+    graph: &mut [u32; 3072],
+    differences: &mut [u32; 4096],
+) -> ReadAnswer
+    ensures { λ r. ⌜ (r .number ≡ answerNumber (readAfter (parse (now (sheet .entry))) (now (graph .entry)) (now (differences .entry)) .answer))
+        × (r .place ≡ answerPlace (readAfter (parse (now (sheet .entry))) (now (graph .entry)) (now (differences .entry)) .answer))
+        × (now (graph .exit) ≡ readAfter (parse (now (sheet .entry))) (now (graph .entry)) (now (differences .entry)) .graph)
+        × (now (differences .exit) ≡ readAfter (parse (now (sheet .entry))) (now (graph .entry)) (now (differences .entry)) .differences) ⌝ }
+{
+    let reading = read_sheet(sheet, graph, differences);
+    let Reading::Refused(why) = reading else {
+        return ReadAnswer {
+            number: 0,
+            place: 0,
+        };
+    };
+    ReadAnswer {
+        number: why.number() as u64,
+        place: why.place() as u64,
+    }
+}

@@ -1,0 +1,180 @@
+// A node's numbers before its operand ids, and the numbers of a difference, read at a cursor.
+ghost use mathlib.Core.Path.{_≡_};
+ghost use Prim.Native.Nat.{_≤_, _<_, min};
+ghost use Rattle.maps.specs.Read.{kindOf, readHead, readDifference, ahead, back};
+ghost use Rattle.maps.specs.Code.{kindMeant};
+ghost use Rattle.sheet.specs.Code.{refusalIn, headRead, differenceRead};
+use maps::Kind;
+use maps::Level;
+use maps::Node;
+use maps::Refusal;
+use maps::Step;
+use number::Cursor;
+use number::Number;
+use number::field;
+use number::ranges_of;
+
+// What reading a node's head gives.
+pub enum HeadRead {
+    Head(Node, Cursor),
+    Refused(Refusal),
+}
+
+// A difference (u, v, w): w is plus - minus.
+pub struct Wish {
+    pub from: u32,
+    pub to: u32,
+    pub plus: u32,
+    pub minus: u32,
+}
+
+// What reading a difference gives.
+pub enum WishRead {
+    Difference(Wish, Cursor),
+    Refused(Refusal),
+}
+
+// The refusal of a number that was not read.
+pub fn refusal_of(read: Number) -> Refusal
+    ensures { λ r. ⌜ r ≡ refusalIn read ⌝ }
+{
+    match read {
+        Number::Refused(why) => why,
+        Number::Value { value: _, next: _ } => Refusal::Ended(0),
+    }
+}
+
+pub fn lesser(a: u32, b: u32) -> u32
+    ensures { λ r. ⌜ r ≡ min a b ⌝ }
+{
+    if a < b { a } else { b }
+}
+
+pub fn kind_of(code: u32, latency: u32) -> Kind
+    ensures { λ r. ⌜ kindMeant r ≡ kindOf code latency ⌝ }
+{
+    if code == 0 {
+        return Kind::Input;
+    }
+    if code == 1 {
+        return Kind::Logic;
+    }
+    Kind::Box {
+        latency: Step(latency),
+    }
+}
+
+// The numbers of a node before its operand ids, where a step has the levels up to top.
+pub fn head_at(sheet: &[u8], c: Cursor, top: u32) -> HeadRead
+    requires { ⌜ top ≤ 64 ⌝ }
+    ensures { λ r. ⌜ headRead r ≡ readHead top (now (sheet .entry)) (c .at) ⌝ }
+{
+    let kind_read = field(sheet, c, 0, 2);
+    let Number::Value {
+        value: code,
+        next: c1,
+    } = kind_read
+    else {
+        return HeadRead::Refused(refusal_of(kind_read));
+    };
+    let mark_read = field(sheet, c1, 0, 1);
+    let Number::Value {
+        value: mark,
+        next: c2,
+    } = mark_read
+    else {
+        return HeadRead::Refused(refusal_of(mark_read));
+    };
+    let all = ranges_of(code);
+    let delays = all.delay;
+    let delay_read = field(sheet, c2, delays.low, lesser(top, delays.high));
+    let Number::Value {
+        value: delay,
+        next: c3,
+    } = delay_read
+    else {
+        return HeadRead::Refused(refusal_of(delay_read));
+    };
+    let latencies = all.latency;
+    let latency_read = field(sheet, c3, latencies.low, latencies.high);
+    let Number::Value {
+        value: latency,
+        next: c4,
+    } = latency_read
+    else {
+        return HeadRead::Refused(refusal_of(latency_read));
+    };
+    let counts = all.operands;
+    let count_read = field(sheet, c4, counts.low, counts.high);
+    let Number::Value {
+        value: operands,
+        next: c5,
+    } = count_read
+    else {
+        return HeadRead::Refused(refusal_of(count_read));
+    };
+    let kind = kind_of(code, latency);
+    HeadRead::Head(
+        Node {
+            kind,
+            output: mark == 1,
+            delay: Level(delay),
+            operands,
+        },
+        c5,
+    )
+}
+
+// How far a difference's code goes ahead: w if it is not negative.
+pub fn ahead_of(code: u32) -> u32
+    ensures { λ r. ⌜ r ≡ ahead code ⌝ }
+{
+    if code % 2 == 0 { code / 2 } else { 0 }
+}
+
+// How far it goes back: -w if that is positive.
+pub fn back_of(code: u32) -> u32
+    ensures { λ r. ⌜ r ≡ back code ⌝ }
+{
+    if code % 2 == 0 { 0 } else { code / 2 + 1 }
+}
+
+// The numbers of a difference among n nodes.
+pub fn difference_at(sheet: &[u8], c: Cursor, n: u32) -> WishRead
+    requires { ⌜ 0 < n ⌝ }
+    ensures { λ r. ⌜ differenceRead r ≡ readDifference n (now (sheet .entry)) (c .at) ⌝ }
+{
+    let from_read = field(sheet, c, 0, n - 1);
+    let Number::Value {
+        value: from,
+        next: c1,
+    } = from_read
+    else {
+        return WishRead::Refused(refusal_of(from_read));
+    };
+    let to_read = field(sheet, c1, 0, n - 1);
+    let Number::Value {
+        value: to,
+        next: c2,
+    } = to_read
+    else {
+        return WishRead::Refused(refusal_of(to_read));
+    };
+    let code_read = field(sheet, c2, 0, 8190);
+    let Number::Value {
+        value: code,
+        next: c3,
+    } = code_read
+    else {
+        return WishRead::Refused(refusal_of(code_read));
+    };
+    WishRead::Difference(
+        Wish {
+            from,
+            to,
+            plus: ahead_of(code),
+            minus: back_of(code),
+        },
+        c3,
+    )
+}

@@ -1,0 +1,105 @@
+//! Reading a sheet as document 01 says, or the number and place of the first of grounds 1 to 5.
+#[derive(Clone, Debug, PartialEq)]
+pub struct Node {
+    pub kind: u32,
+    pub output: bool,
+    pub delay: u32,
+    pub latency: u32,
+    pub operands: Vec<u32>,
+}
+
+#[derive(Clone, Debug, PartialEq)]
+pub struct Difference {
+    pub from: u32,
+    pub to: u32,
+    pub weight: i32,
+}
+
+#[derive(Clone, Debug, PartialEq)]
+pub struct Sheet {
+    pub leaves: u32,
+    pub top: u32,
+    pub horizon: u32,
+    pub nodes: Vec<Node>,
+    pub differences: Vec<Difference>,
+}
+
+pub type Refusal = (u64, u64);
+
+struct Source<'a> {
+    bytes: &'a [u8],
+    at: usize,
+}
+
+impl Source<'_> {
+    /// The next number and the place of its first byte.
+    fn number(&mut self) -> Result<(u32, u64), Refusal> {
+        let place = self.at;
+        let Some(&first) = self.bytes.get(place) else {
+            return Err((1, self.bytes.len() as u64));
+        };
+        self.at += 1;
+        if first < 128 {
+            return Ok((first as u32, place as u64));
+        }
+        let Some(&second) = self.bytes.get(place + 1) else {
+            return Err((1, self.bytes.len() as u64));
+        };
+        self.at += 1;
+        if !(1..=127).contains(&second) {
+            return Err((2, place as u64));
+        }
+        Ok(((first & 127) as u32 | (second as u32) << 7, place as u64))
+    }
+
+    fn ranged(&mut self, low: u32, high: u32) -> Result<u32, Refusal> {
+        let (value, place) = self.number()?;
+        if value < low || value > high {
+            return Err((3, place));
+        }
+        Ok(value)
+    }
+}
+
+pub fn read(bytes: &[u8]) -> Result<Sheet, Refusal> {
+    let mut source = Source { bytes, at: 0 };
+    let leaves = source.ranged(2, 6)?;
+    let top = source.ranged(1, 64)?;
+    let horizon = source.ranged(0, 4095)?;
+    let n = source.ranged(1, 256)?;
+    let m = source.ranged(0, 1024)?;
+    let mut nodes = Vec::new();
+    for own in 0..n {
+        let kind = source.ranged(0, 2)?;
+        let output = source.ranged(0, 1)? == 1;
+        let (delays, latencies, counts) = match kind {
+            0 => ((0, 0), (0, 0), (0, 0)),
+            1 => ((1, top), (0, 0), (1, 6)),
+            _ => ((0, top), (0, 255), (0, 6)),
+        };
+        let delay = source.ranged(delays.0, delays.1)?;
+        let latency = source.ranged(latencies.0, latencies.1)?;
+        let count = source.ranged(counts.0, counts.1)?;
+        let mut operands = Vec::new();
+        for _ in 0..count {
+            let (id, place) = source.number()?;
+            if id >= own {
+                return Err((4, place));
+            }
+            operands.push(id);
+        }
+        nodes.push(Node { kind, output, delay, latency, operands });
+    }
+    let mut differences = Vec::new();
+    for _ in 0..m {
+        let from = source.ranged(0, n - 1)?;
+        let to = source.ranged(0, n - 1)?;
+        let code = source.ranged(0, 8190)? as i32;
+        let weight = if code % 2 == 0 { code / 2 } else { -(code + 1) / 2 };
+        differences.push(Difference { from, to, weight });
+    }
+    if source.at < bytes.len() {
+        return Err((5, source.at as u64));
+    }
+    Ok(Sheet { leaves, top, horizon, nodes, differences })
+}
