@@ -1,4 +1,5 @@
 //! An independent account of document 01 in Rust, written from the document, and made-up sheets to try the library on.
+pub mod cones;
 pub mod library;
 pub mod made;
 pub mod random;

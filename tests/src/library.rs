@@ -9,6 +9,8 @@ pub struct ReadAnswer {
 }
 
 extern "C" {
+    fn maps_any_cut(sheet: *const u8, length: usize, allowed: *const [u8; 256], v: u32, k: u32, cut: *mut [u32; 8]) -> u32;
+    fn maps_cut(sheet: *const u8, length: usize, allowed: *const [u8; 256], v: u32, k: u32, cut: *mut [u32; 8]) -> u32;
     fn maps_read(sheet: *const u8, length: usize, graph: *mut [u32; 3072], differences: *mut [u32; 4096]) -> ReadAnswer;
 }
 
@@ -41,4 +43,34 @@ impl Tables {
 
 pub fn read(sheet: &[u8], tables: &mut Tables) -> ReadAnswer {
     unsafe { maps_read(sheet.as_ptr(), sheet.len(), &mut tables.graph, &mut tables.differences) }
+}
+
+type CutCall = unsafe extern "C" fn(*const u8, usize, *const [u8; 256], u32, u32, *mut [u32; 8]) -> u32;
+
+/// What a question about cuts answers: None where it is outside the sheet, Some(None) where there is no cut.
+fn question(call: CutCall, sheet: &[u8], allowed: &[bool], v: u32, k: u32) -> Option<Option<Vec<u32>>> {
+    let mut marks = [0u8; 256];
+    for (mark, &may) in marks.iter_mut().zip(allowed) {
+        *mark = u8::from(may);
+    }
+    let mut cut = [u32::MAX; 8];
+    let count = unsafe { call(sheet.as_ptr(), sheet.len(), &marks, v, k, &mut cut) };
+    match count {
+        255 => {
+            assert!(cut == [u32::MAX; 8], "nothing is written");
+            None
+        }
+        _ if count == k + 1 => Some(None),
+        _ => Some(Some(cut[..count as usize].to_vec())),
+    }
+}
+
+/// Some cut of v with at most k leaves, all of them allowed.
+pub fn any_cut(sheet: &[u8], allowed: &[bool], v: u32, k: u32) -> Option<Option<Vec<u32>>> {
+    question(maps_any_cut, sheet, allowed, v, k)
+}
+
+/// The chosen one.
+pub fn chosen_cut(sheet: &[u8], allowed: &[bool], v: u32, k: u32) -> Option<Option<Vec<u32>>> {
+    question(maps_cut, sheet, allowed, v, k)
 }

@@ -3,3 +3,4 @@ pub mod Turns
 pub mod Reading
 pub mod Rows
 pub mod Tables
+pub mod After

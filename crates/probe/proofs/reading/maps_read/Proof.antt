@@ -1,8 +1,8 @@
--- `sheet::maps_read` meets its contract.
+-- `probe::maps_read` meets its contract.
 use borrow.Author.Needs.{needs}
 use Rattle.sheet.proofs.Reading.{exported}
-use Rattle.sheet.proofs.export.maps_read.Statement.{statement}
-use Rattle.sheet.proofs.export.maps_read.Tie as tie
+use Rattle.probe.proofs.reading.maps_read.Statement.{statement}
+use Rattle.probe.proofs.reading.maps_read.Tie as tie
 
 returns : tie.Need-returns
 returns c = exported _ _ _ _ (rw (c .enum-told .given .1) at (c .before .before .read-sheet .ensures))

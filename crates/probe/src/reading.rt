@@ -1,9 +1,9 @@
-// The reader for callers in C and Rust.
+// Reading a sheet into two tables.
 ghost use mathlib.Core.Path.{_≡_};
 ghost use Rattle.maps.specs.Read.{parse};
 ghost use Rattle.sheet.specs.Table.{readAfter, answerNumber, answerPlace};
-use crate::reader::Reading;
-use crate::reader::read_sheet;
+use sheet::Reading;
+use sheet::read_sheet;
 
 // Document 01's number and place; 0 and 0 where the sheet reads.
 #[repr(C)]

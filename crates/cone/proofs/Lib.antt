@@ -1,0 +1,3 @@
+mod Growth
+mod Listing
+pub mod Cones

@@ -1,0 +1,352 @@
+-- `enter`, `expand` and `scan`, which call each other, meet their contracts. The measure counts the places of `seen` that are not marked.
+use borrow.Author.Needs.{needs}
+use native.Mathlib.Omega.{arith}
+use Prim.Native.Nat.{ℕ, _+_, _*_, _-_, _<_}
+use mathlib.Core.Path.{refl, sym, subst, _∙_}
+use mathlib.Core.Logic.{inl, inr}
+use mathlib.Core.List.{List}
+use lib.ListN.{length, length-set}
+use Rattle.cut.specs.Search.{at, Flow, zeros}
+use Rattle.cut.proofs.Laws as Laws
+use borrow.Fn.Kinds.{In}
+use borrow.Fn.PlainCycle.{Measures, is, falls, and}
+use Rattle.cut.proofs.enter.Reads as enter
+use Rattle.cut.proofs.enter.Kinds as enter-kinds
+use Rattle.cut.proofs.+enter+expand+scan.Lts-enter as enter-lts
+use Rattle.cut.proofs.expand.Reads as expand
+use Rattle.cut.proofs.expand.Kinds as expand-kinds
+use Rattle.cut.proofs.+enter+expand+scan.Lts-expand as expand-lts
+use Rattle.cut.proofs.scan.Reads as scan
+use Rattle.cut.proofs.scan.Kinds as scan-kinds
+use Rattle.cut.proofs.+enter+expand+scan.Lts-scan as scan-lts
+use Rattle.cut.proofs.+enter+expand+scan.{statement}
+use Rattle.cut.proofs.+enter+expand+scan.Tie.{close}
+
+abbrev μ-enter : Measures 4 enter-kinds.ps ℕ
+μ-enter κs a = zeros (a .1 .1 .0 .now) * 16 + 1
+
+abbrev μ-expand : Measures 4 expand-kinds.ps ℕ
+μ-expand κs a = zeros (a .1 .1 .0 .now) * 16
+
+abbrev μ-scan : Measures 4 scan-kinds.ps ℕ
+μ-scan κs a = zeros (a .1 .1 .0 .now) * 16 + (10 - a .1 .1 .1 .1 .1 .0)
+
+abbrev enter-at : ℕ → In 4 enter-kinds.ps
+enter-at t = and 4 enter-kinds.ps (is 4 enter-kinds.ps μ-enter t) enter.Pre
+
+abbrev enter-below : ℕ → In 4 enter-kinds.ps
+enter-below t = and 4 enter-kinds.ps (falls 4 enter-kinds.ps _<_ μ-enter t) enter.Pre
+
+abbrev expand-at : ℕ → In 4 expand-kinds.ps
+expand-at t = and 4 expand-kinds.ps (is 4 expand-kinds.ps μ-expand t) expand.Pre
+
+abbrev expand-below : ℕ → In 4 expand-kinds.ps
+expand-below t = and 4 expand-kinds.ps (falls 4 expand-kinds.ps _<_ μ-expand t) expand.Pre
+
+abbrev scan-at : ℕ → In 4 scan-kinds.ps
+scan-at t = and 4 scan-kinds.ps (is 4 scan-kinds.ps μ-scan t) scan.Pre
+
+abbrev scan-below : ℕ → In 4 scan-kinds.ps
+scan-below t = and 4 scan-kinds.ps (falls 4 scan-kinds.ps _<_ μ-scan t) scan.Pre
+
+enter-returns : (t : ℕ) → enter-lts.Need-returns (expand-below t, expand.Post) (enter-at t) enter.Post
+enter-returns t c =
+    let s = c .before .before in
+    let graph = s .args .graph .now in
+    let code = s .args .code .now in
+    let seen = s .args .seen .now in
+    let above = s .args .above .now in
+    let ready = s .pre .1 .0 in
+    Laws.enter-late graph code seen above (s .args .x) (s .args .from) (ready .flow) (s .pre .1 .1) (c .if1 .taken)
+
+enter-expand-requires : (t : ℕ) → enter-lts.Need-expand-requires (expand-below t, expand.Post) (enter-at t) enter.Post
+enter-expand-requires t c κs =
+    let s = c .before .before .before .before .before in
+    let graph = s .args .graph .now in
+    let code = s .args .code .now in
+    let ready = s .pre .1 .0 in
+    let m = s .pre .0 in
+    let z = c .before .before .if2 .taken in
+    (omega arith, (ready, (Laws.under-link graph code (s .args .from) (s .args .x) z (s .pre .1 .1), inr z)))
+
+enter-returns-2 : (t : ℕ) → enter-lts.Need-returns-2 (expand-below t, expand.Post) (enter-at t) enter.Post
+enter-returns-2 t c =
+    let s = c .before .before .before .before .before .before in
+    let code = s .args .code .now in
+    let e = c .expand in
+    Laws.ends-map (e .result) (λ d. d) (λ d. (d .0, Laws.entered-inside code (e .last .1 .1 .0) (s .args .x) (c .before .before .before .if2 .taken) (d .1))) (e .ensures)
+
+enter-returns-3 : (t : ℕ) → enter-lts.Need-returns-3 (expand-below t, expand.Post) (enter-at t) enter.Post
+enter-returns-3 t c =
+    let s = c .before .before .before .before .before in
+    let graph = s .args .graph .now in
+    let code = s .args .code .now in
+    let seen = s .args .seen .now in
+    let above = s .args .above .now in
+    (Laws.block-none graph code seen above, Laws.entered-leaf code seen (s .args .x) (c .before .before .if2 .left) (c .before .before .before .if1 .left) (c .if3 .taken))
+
+enter-expand-requires-2 : (t : ℕ) → enter-lts.Need-expand-requires-2 (expand-below t, expand.Post) (enter-at t) enter.Post
+enter-expand-requires-2 t c κs =
+    let s = c .before .before .before .before .before .before .before .before in
+    let graph = s .args .graph .now in
+    let code = s .args .code .now in
+    let seen = s .args .seen .now in
+    let above = s .args .above .now in
+    let ready = s .pre .1 .0 in
+    let in-s : s .args .x + 256 < length seen = (let l = ready .marks in let n = ready .node in omega arith) in
+    let m = s .pre .0 in
+    let z = Laws.zeros-mark seen (s .args .x + 256) in-s (c .before .before .before .if3 .left) in
+    let q = ready .flow .low (s .args .x) (ready .node) in (
+      omega arith,
+      (
+        record { falling = ready .falling; marks = length-set seen (s .args .x + 256) 1 ∙ ready .marks; flow = ready .flow; node = q; source = q; below = omega arith },
+        (Laws.under-self graph code (at above (s .args .x)), inl refl),
+      ),
+    )
+
+enter-returns-4 : (t : ℕ) → enter-lts.Need-returns-4 (expand-below t, expand.Post) (enter-at t) enter.Post
+enter-returns-4 t c =
+    let s = c .before .before .before .before .before .before .before .before .before .before in
+    let graph = s .args .graph .now in
+    let code = s .args .code .now in
+    let seen = s .args .seen .now in
+    let above = s .args .above .now in
+    let ready = s .pre .1 .0 in
+    let in-s : s .args .x + 256 < length seen = (let l = ready .marks in let n = ready .node in omega arith) in
+    let e = c .before .expand2 in
+    Laws.enter-push graph code seen (e .last .1 .1 .0) above (e .last .1 .1 .1 .0) (s .args .x) (s .args .from) (ready .node) in-s (c .before .before .before .before .before .if3 .left) (c .before .before .before .before .before .before .before .if2 .left) (c .before .before .before .before .before .before .before .before .if1 .left)
+    (ready .source) (ready .below) (s .pre .1 .1) (Laws.succeeded _ _ (e .result) (c .if4 .taken) (e .ensures))
+
+enter-returns-5 : (t : ℕ) → enter-lts.Need-returns-5 (expand-below t, expand.Post) (enter-at t) enter.Post
+enter-returns-5 t c =
+    let s = c .before .before .before .before .before .before .before .before .before .before in
+    let graph = s .args .graph .now in
+    let code = s .args .code .now in
+    let seen = s .args .seen .now in
+    let above = s .args .above .now in
+    let ready = s .pre .1 .0 in
+    let in-s : s .args .x + 256 < length seen = (let l = ready .marks in let n = ready .node in omega arith) in
+    let e = c .before .expand2 in
+    let f = Laws.failed _ _ (e .result) (c .if4 .left) (e .ensures) in
+    Laws.enter-block graph code seen (e .last .1 .1 .0) above (e .last .1 .1 .1 .0) (s .args .x) (s .args .from) (ready .node) in-s (c .before .before .before .before .before .if3 .left) (c .before .before .before .before .before .before .before .if2 .left) (c .before .before .before .before .before .before .before .before .if1 .left) (f .0) (f .1)
+
+expand-returns : (t : ℕ) → expand-lts.Need-returns (scan-below t, scan.Post, enter-below t, enter.Post) (expand-at t) expand.Post
+expand-returns t c =
+    let s = c .before .before in
+    let graph = s .args .graph .now in
+    let code = s .args .code .now in
+    let seen = s .args .seen .now in
+    let above = s .args .above .now in
+    let ready = s .pre .1 .0 in
+    Laws.expand-leaf graph code seen above (s .args .p) (s .args .from) (ready .flow) (s .pre .1 .1 .1) (c .if1 .taken)
+
+expand-returns-2 : (t : ℕ) → expand-lts.Need-returns-2 (scan-below t, scan.Post, enter-below t, enter.Post) (expand-at t) expand.Post
+expand-returns-2 t c =
+    let s = c .before .before .before .before in
+    let graph = s .args .graph .now in
+    let code = s .args .code .now in
+    let seen = s .args .seen .now in
+    let above = s .args .above .now in
+    (Laws.block-none graph code seen above, c .if2 .taken)
+
+expand-scan-requires : (t : ℕ) → expand-lts.Need-scan-requires (scan-below t, scan.Post, enter-below t, enter.Post) (expand-at t) expand.Post
+expand-scan-requires t c κs =
+    let s = c .before .before .before .before .before .before in
+    let seen = s .args .seen .now in
+    let ready = s .pre .1 .0 in
+    let in-s : s .args .p < length seen = (let l = ready .marks in let n = ready .node in omega arith) in
+    let m = s .pre .0 in
+    let z = Laws.zeros-mark seen (s .args .p) in-s (c .before .before .if2 .left) in (
+      omega arith,
+      (
+        record { falling = ready .falling; marks = length-set seen (s .args .p) 1 ∙ ready .marks; flow = ready .flow; node = ready .node; source = ready .source; below = ready .below },
+        s .pre .1 .1 .0,
+      ),
+    )
+
+expand-returns-3 : (t : ℕ) → expand-lts.Need-returns-3 (scan-below t, scan.Post, enter-below t, enter.Post) (expand-at t) expand.Post
+expand-returns-3 t c =
+    let s = c .before .before .before .before .before .before .before .before in
+    let graph = s .args .graph .now in
+    let code = s .args .code .now in
+    let seen = s .args .seen .now in
+    let above = s .args .above .now in
+    let ready = s .pre .1 .0 in
+    let in-s : s .args .p < length seen = (let l = ready .marks in let n = ready .node in omega arith) in
+    let e = c .before .scan in
+    Laws.push-mark graph code seen (e .last .1 .1 .0) above (e .last .1 .1 .1 .0) (s .args .p) in-s (s .args .from) (Laws.succeeded _ _ (e .result) (c .if3 .taken) (e .ensures))
+
+expand-returns-4 : (t : ℕ) → expand-lts.Need-returns-4 (scan-below t, scan.Post, enter-below t, enter.Post) (expand-at t) expand.Post
+expand-returns-4 t c =
+    let s = c .before .before .before .before .before .before .before .before .before .before in
+    let graph = s .args .graph .now in
+    let code = s .args .code .now in
+    let seen = s .args .seen .now in
+    let above = s .args .above .now in
+    let ready = s .pre .1 .0 in
+    let in-s : s .args .p < length seen = (let l = ready .marks in let n = ready .node in omega arith) in
+    let e = c .before .before .before .scan in
+    let f = Laws.failed _ _ (e .result) (c .before .before .if3 .left) (e .ensures) in
+    Laws.expand-stuck graph code seen (e .last .1 .1 .0) above (e .last .1 .1 .1 .0) (s .args .p) (ready .node) in-s (c .before .before .before .before .before .before .if2 .left) (c .before .before .before .before .before .before .before .before .if1 .left) (f .0) (f .1) (c .if4 .taken)
+
+expand-enter-requires : (t : ℕ) → expand-lts.Need-enter-requires (scan-below t, scan.Post, enter-below t, enter.Post) (expand-at t) expand.Post
+expand-enter-requires t c κs =
+    let s = c .before .before .before .before .before .before .before .before .before .before .before .before in
+    let graph = s .args .graph .now in
+    let code = s .args .code .now in
+    let seen = s .args .seen .now in
+    let ready = s .pre .1 .0 in
+    let in-s : s .args .p < length seen = (let l = ready .marks in let n = ready .node in omega arith) in
+    let m = s .pre .0 in
+    let z = Laws.zeros-mark seen (s .args .p) in-s (c .before .before .before .before .before .before .before .before .if2 .left) in
+    let e = c .before .before .before .before .before .scan in
+    let f = Laws.failed _ _ (e .result) (c .before .before .before .before .if3 .left) (e .ensures) in
+    let w = f .0 .fewer in (
+      omega arith,
+      (
+        record { falling = ready .falling; marks = f .0 .long ∙ length-set seen (s .args .p) 1 ∙ ready .marks; flow = subst (λ (l : List ℕ). Flow graph code l) (sym (f .0 .same)) (ready .flow); node = ready .node; source = ready .node; below = omega arith },
+        Laws.link-under graph code (s .args .p) (s .args .p) (Laws.under-self graph code (s .args .p)),
+      ),
+    )
+
+expand-returns-5 : (t : ℕ) → expand-lts.Need-returns-5 (scan-below t, scan.Post, enter-below t, enter.Post) (expand-at t) expand.Post
+expand-returns-5 t c =
+    let s = c .before .before .before .before .before .before .before .before .before .before .before .before .before in
+    let graph = s .args .graph .now in
+    let code = s .args .code .now in
+    let seen = s .args .seen .now in
+    let above = s .args .above .now in
+    let ready = s .pre .1 .0 in
+    let in-s : s .args .p < length seen = (let l = ready .marks in let n = ready .node in omega arith) in
+    let e = c .before .before .before .before .before .before .scan in
+    let f = Laws.failed _ _ (e .result) (c .before .before .before .before .before .if3 .left) (e .ensures) in
+    let g = c .enter in
+    Laws.expand-back graph code seen (e .last .1 .1 .0) above (e .last .1 .1 .1 .0) (s .args .p) (ready .node) in-s (c .before .before .before .before .before .before .before .before .before .if2 .left) (c .before .before .before .before .before .before .before .before .before .before .before .if1 .left) (f .0) (f .1)
+    (g .last .1 .1 .0) (g .last .1 .1 .1 .0) (s .args .from) (g .result) (ready .flow) (s .pre .1 .1 .1) (c .before .before .before .if4 .left) (g .ensures)
+
+scan-returns : (t : ℕ) → scan-lts.Need-returns (enter-below t, enter.Post, scan-below t, scan.Post) (scan-at t) scan.Post
+scan-returns t c =
+    let s = c .before .before in
+    let graph = s .args .graph .now in
+    let code = s .args .code .now in
+    let seen = s .args .seen .now in
+    let above = s .args .above .now in
+    let ready = s .pre .1 .0 in
+    (Laws.block-none graph code seen above, λ i le lt. let g = c .if1 .taken in absurd (omega arith))
+
+scan-element-copy-out-y : (t : ℕ) → scan-lts.Need-element-copy-out-y (enter-below t, enter.Post, scan-below t, scan.Post) (scan-at t) scan.Post
+scan-element-copy-out-y t c =
+    let s = c .before .before in
+    let ready = s .pre .1 .0 in
+    let few = ready .falling .few (s .args .p) (ready .node) in
+    let n = ready .node in
+    omega arith
+
+scan-enter-requires : (t : ℕ) → scan-lts.Need-enter-requires (enter-below t, enter.Post, scan-below t, scan.Post) (scan-at t) scan.Post
+scan-enter-requires t c κs =
+    let s = c .before .before .before .before .before in
+    let graph = s .args .graph .now in
+    let code = s .args .code .now in
+    let ready = s .pre .1 .0 in
+    let few = ready .falling .few (s .args .p) (ready .node) in
+    let m = s .pre .0 in
+    let j = c .before .before .before .if1 .left in
+    let y = ready .falling .falls (s .args .p) (s .args .j) (ready .node) j in
+    let n = ready .node in
+    let l = ready .below in (
+      omega arith,
+      (
+        record { falling = ready .falling; marks = ready .marks; flow = ready .flow; node = omega arith; source = ready .source; below = omega arith },
+        Laws.link-operand graph code (s .args .from) (s .args .p) (s .args .j) (s .pre .1 .1) j,
+      ),
+    )
+
+scan-returns-2 : (t : ℕ) → scan-lts.Need-returns-2 (enter-below t, enter.Post, scan-below t, scan.Post) (scan-at t) scan.Post
+scan-returns-2 t c = let e = c .before .enter in Laws.succeeded _ _ (e .result) (c .if2 .taken) (e .ensures)
+
+scan-add-scan : (t : ℕ) → scan-lts.Need-add-scan (enter-below t, enter.Post, scan-below t, scan.Post) (scan-at t) scan.Post
+scan-add-scan t c =
+    let s = c .before .before .before .before .before .before .before .before .before in
+    let ready = s .pre .1 .0 in
+    let few = ready .falling .few (s .args .p) (ready .node) in
+    let j = c .before .before .before .before .before .before .before .if1 .left in
+    omega arith
+
+scan-scan-requires : (t : ℕ) → scan-lts.Need-scan-requires (enter-below t, enter.Post, scan-below t, scan.Post) (scan-at t) scan.Post
+scan-scan-requires t c κs =
+    let s = c .before .before .before .before .before .before .before .before .before in
+    let graph = s .args .graph .now in
+    let code = s .args .code .now in
+    let ready = s .pre .1 .0 in
+    let few = ready .falling .few (s .args .p) (ready .node) in
+    let m = s .pre .0 in
+    let j = c .before .before .before .before .before .before .before .if1 .left in
+    let e = c .before .before .before .enter in
+    let f = Laws.failed _ _ (e .result) (c .before .before .if2 .left) (e .ensures) in
+    let w = f .0 .fewer in (
+      omega arith,
+      (
+        record { falling = ready .falling; marks = f .0 .long ∙ ready .marks; flow = subst (λ (l : List ℕ). Flow graph code l) (sym (f .0 .same)) (ready .flow); node = ready .node; source = ready .source; below = ready .below },
+        s .pre .1 .1,
+      ),
+    )
+
+scan-returns-3 : (t : ℕ) → scan-lts.Need-returns-3 (enter-below t, enter.Post, scan-below t, scan.Post) (scan-at t) scan.Post
+scan-returns-3 t c =
+    let s = c .before .before .before .before .before .before .before .before .before .before in
+    let graph = s .args .graph .now in
+    let code = s .args .code .now in
+    let seen = s .args .seen .now in
+    let above = s .args .above .now in
+    let e = c .before .before .before .before .enter in
+    let f = Laws.failed _ _ (e .result) (c .before .before .before .if2 .left) (e .ensures) in
+    let g = c .scan in
+    Laws.scan-more graph code seen (e .last .1 .1 .0) (g .last .1 .1 .0) above (e .last .1 .1 .1 .0) (g .last .1 .1 .1 .0) (s .args .p) (s .args .j) (s .args .from) (g .result) (f .0) (f .1) (g .ensures)
+
+pub +enter+expand+scan-spec : {M : Type 1} → statement M
++enter+expand+scan-spec =
+    close μ-enter μ-expand μ-scan
+    (λ t. enter-lts.spec (expand-below t, expand.Post) (enter-at t) enter.Post
+    (λ c. search needs)
+    (enter-returns t)
+    (enter-expand-requires t)
+    (enter-returns-2 t)
+    (λ c. search needs)
+    (λ c. search needs)
+    (enter-returns-3 t)
+    (λ c. search needs)
+    (λ c. search needs)
+    (λ c. search needs)
+    (enter-expand-requires-2 t)
+    (λ c. search needs)
+    (λ c. search needs)
+    (enter-returns-4 t)
+    (enter-returns-5 t))
+    (λ t. expand-lts.spec (scan-below t, scan.Post, enter-below t, enter.Post) (expand-at t) expand.Post
+    (λ c. search needs)
+    (expand-returns t)
+    (λ c. search needs)
+    (expand-returns-2 t)
+    (λ c. search needs)
+    (expand-scan-requires t)
+    (expand-returns-3 t)
+    (λ c. search needs)
+    (λ c. search needs)
+    (expand-returns-4 t)
+    (expand-enter-requires t)
+    (expand-returns-5 t))
+    (λ t. scan-lts.spec (enter-below t, enter.Post, scan-below t, scan.Post) (scan-at t) scan.Post
+    (λ c. search needs)
+    (λ c. search needs)
+    (λ c. search needs)
+    (λ c. search needs)
+    (scan-returns t)
+    (λ c. search needs)
+    (λ c. search needs)
+    (λ c. search needs)
+    (scan-element-copy-out-y t)
+    (scan-enter-requires t)
+    (scan-returns-2 t)
+    (scan-add-scan t)
+    (scan-scan-requires t)
+    (scan-returns-3 t))

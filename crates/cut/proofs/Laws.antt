@@ -1,0 +1,281 @@
+-- One search: what a mark and a store change, and a step of each of its functions.
+use mathlib.Core.Path.{_≡_, refl, sym, ap, _∙_, subst}
+use mathlib.Core.Logic.{_⊎_, inl, inr, ⊎-elim}
+use mathlib.Core.List.{List, [], _∷_}
+use mathlib.Core.Bool.{Bool, true, false}
+use Prim.Native.Nat.{ℕ, zero, suc, _+_, _≤_, _<_}
+use native.Mathlib.Nat.{le-of-suc-le-suc, not-suc-le-zero}
+use native.Mathlib.Decide.{ℕ-discrete}
+use native.Mathlib.Omega.{arith}
+use lib.ListN.{length, set, length-set}
+use lib.Seq.{getD-set-same, getD-set-other}
+use lib.Dec.{eqb}
+use borrow.Author.Tests.{ne-eqb}
+use Rattle.sheet.specs.Table.{countIn, operandIn}
+use Rattle.cut.specs.Search.{at, Legal, Inside, Touch, Under, Link, Flow, bit, count, zero?, zeros, Seen, Entered, OutDone, NewDone, Blocked, Pushed, Ends}
+
+-- ---- a mark
+
+pub zeros-mark : (l : List ℕ) (i : ℕ) → i < length l → at l i ≡ 0 → zeros (set l i 1) + 1 ≡ zeros l
+unfolding zeros
+zeros-mark [] i h e = absurd (not-suc-le-zero h)
+zeros-mark (a ∷ l) zero h e = let z : zero? a ≡ 1 = ap zero? e in omega arith
+zeros-mark (a ∷ l) (suc i) h e = let ih = zeros-mark l i (le-of-suc-le-suc h) e in omega arith
+
+marked : (l : List ℕ) (i : ℕ) → i < length l → Seen (set l i 1) i
+marked l i h e = let one = getD-set-same l i 1 0 h in omega arith
+
+mark-grows : (l : List ℕ) (k i : ℕ) → k < length l → Seen l i → Seen (set l k 1) i
+mark-grows l k i h s e = go (ℕ-discrete i k)
+  where
+    go : Dec (i ≡ k) → ⊥
+    go (yes p) = marked l k h (subst (λ (n : ℕ). at (set l k 1) n ≡ 0) p e)
+    go (no f) = s (sym (getD-set-other l k i 1 0 f) ∙ e)
+
+-- ---- what is done stays done
+
+entered-grows : (code s s′ : List ℕ) (x : ℕ) → ((i : ℕ) → Seen s i → Seen s′ i) → Entered code s x → Entered code s′ x
+unfolding Entered
+entered-grows code s s′ x g e = (λ z. g x (e .0 z), λ nz. g (x + 256) (e .1 nz), e .2)
+
+pub done-grows : (graph code s s′ above : List ℕ) (u : ℕ) → ((i : ℕ) → Seen s i → Seen s′ i) → OutDone graph code s above u → OutDone graph code s′ above u
+done-grows graph code s s′ above u g d = record { inside = d .inside; operands = λ j lt. entered-grows code s s′ (operandIn graph u j) g (d .operands j lt); back = λ f. g (u + 256) (d .back f) }
+
+done-none : (graph code s above : List ℕ) → NewDone graph code s s above
+done-none graph code s above = record { out = λ u lt z n. absurd (n z); inn = λ u lt z n. absurd (n z) }
+
+done-trans : (graph code s s′ s″ above : List ℕ) → ((i : ℕ) → Seen s′ i → Seen s″ i) → NewDone graph code s s′ above → NewDone graph code s′ s″ above → NewDone graph code s s″ above
+done-trans graph code s s′ s″ above g d d′ = record { out = λ u lt z n. out u lt z n (ℕ-discrete (at s′ u) 0); inn = λ u lt z n. inn u lt z n (ℕ-discrete (at s′ (u + 256)) 0) }
+  where
+    out : (u : ℕ) → u < 256 → at s u ≡ 0 → Seen s″ u → Dec (at s′ u ≡ 0) → OutDone graph code s″ above u
+    out u lt z n (yes e) = d′ .out u lt e n
+    out u lt z n (no f) = done-grows graph code s′ s″ above u g (d .out u lt z f)
+
+    inn : (u : ℕ) → u < 256 → at s (u + 256) ≡ 0 → Seen s″ (u + 256) → Dec (at s′ (u + 256) ≡ 0) → Seen s″ (at above u)
+    inn u lt z n (yes e) = d′ .inn u lt e n
+    inn u lt z n (no f) = g (at above u) (d .inn u lt z f)
+
+-- after a mark at k, which is then done itself
+done-mark : (graph code s s′ above : List ℕ) (k : ℕ) → NewDone graph code (set s k 1) s′ above
+    → ((u : ℕ) → u < 256 → u ≡ k → OutDone graph code s′ above u)
+    → ((u : ℕ) → u < 256 → u + 256 ≡ k → Seen s′ (at above u))
+    → NewDone graph code s s′ above
+done-mark graph code s s′ above k d o i = record { out = λ u lt z n. out u lt z n (ℕ-discrete u k); inn = λ u lt z n. inn u lt z n (ℕ-discrete (u + 256) k) }
+  where
+    out : (u : ℕ) → u < 256 → at s u ≡ 0 → Seen s′ u → Dec (u ≡ k) → OutDone graph code s′ above u
+    out u lt z n (yes e) = o u lt e
+    out u lt z n (no f) = d .out u lt (getD-set-other s k u 1 0 f ∙ z) n
+
+    inn : (u : ℕ) → u < 256 → at s (u + 256) ≡ 0 → Seen s′ (u + 256) → Dec (u + 256 ≡ k) → Seen s′ (at above u)
+    inn u lt z n (yes e) = i u lt e
+    inn u lt z n (no f) = d .inn u lt (getD-set-other s k (u + 256) 1 0 f ∙ z) n
+
+-- ---- a store
+
+pub count-set : (u w : ℕ) (l : List ℕ) (i : ℕ) → i < length l → count u (set l i w) + bit (eqb (at l i) u) ≡ count u l + bit (eqb w u)
+unfolding count
+count-set u w [] i h = absurd (not-suc-le-zero h)
+count-set u w (a ∷ l) zero h = omega arith
+count-set u w (a ∷ l) (suc i) h = let ih = count-set u w l i (le-of-suc-le-suc h) in omega arith
+
+-- ---- links
+
+pub under-self : (graph code : List ℕ) (a : ℕ) → Under graph code a a
+unfolding Under
+under-self graph code a C legal h = h
+
+pub link-under : (graph code : List ℕ) (a p : ℕ) → Under graph code a p → Link graph code a p
+unfolding Under Link
+link-under graph code a p u C legal h = inl (u C legal h)
+
+pub link-operand : (graph code : List ℕ) (a p j : ℕ) → Under graph code a p → j < countIn graph p → Link graph code a (operandIn graph p j)
+unfolding Under Link Touch
+link-operand graph code a p j u lt C legal h = inr (p, j, u C legal h, lt, refl)
+
+pub under-link : (graph code : List ℕ) (a x : ℕ) → at code x ≡ 0 → Link graph code a x → Under graph code a x
+unfolding Under Link Touch Legal
+under-link graph code a x z l C legal h = ⊎-elim (λ e. e) (λ t. ⊎-elim (λ e. subst (λ (n : ℕ). C n ≡ true) (t .4) e) (λ f. absurd (f .0 (subst (λ (n : ℕ). at code n ≡ 0) (sym (t .4)) z))) (legal (t .0) (t .2) .2 (t .1) (t .3))) (l C legal h)
+
+-- ---- one search after another
+
+pub ends-map : {A A′ B B′ : Type 0} (b : Bool) → (A → A′) → (B → B′) → Ends b A B → Ends b A′ B′
+ends-map true f g e = f e
+ends-map false f g e = g e
+
+pub succeeded : (A B : Type 0) (b : Bool) → b ≡ true → Ends b A B → A
+succeeded A B b e x = subst (λ (b : Bool). Ends b A B) e x
+
+pub failed : (A B : Type 0) (b : Bool) → b ≡ false → Ends b A B → B
+failed A B b e x = subst (λ (b : Bool). Ends b A B) e x
+
+pub block-none : (graph code s above : List ℕ) → Blocked graph code s s above above
+block-none graph code s above = record { same = refl; grow = λ i n. n; done = done-none graph code s above; fewer = omega arith; long = refl }
+
+module _ (graph code s s′ above above′ above″ : List ℕ) (b : Blocked graph code s s′ above above′) where
+  push-after : (from : ℕ) → Pushed graph code s′ above′ above″ from → Pushed graph code s above above″ from
+  push-after from p = record {
+    flow = p .flow;
+    more = λ u lt n. subst (λ (l : List ℕ). count u above″ ≡ count u l + bit (eqb from u)) (b .same) (p .more u lt n);
+    kept = λ x lt n. p .kept x lt (b .grow (x + 256) n) ∙ ap (λ (l : List ℕ). at l x) (b .same);
+  }
+
+  block-after : (s″ : List ℕ) → Blocked graph code s′ s″ above′ above″ → Blocked graph code s s″ above above″
+  block-after s″ d = record {
+    same = d .same ∙ b .same;
+    grow = λ i n. d .grow i (b .grow i n);
+    done = done-trans graph code s s′ s″ above (d .grow) (b .done) (subst (λ (l : List ℕ). NewDone graph code s′ s″ l) (b .same) (d .done));
+    fewer = let x = d .fewer in let y = b .fewer in omega arith;
+    long = d .long ∙ b .long;
+  }
+
+-- ---- a mark before a search
+
+module _ (graph code s s′ above above′ : List ℕ) (k : ℕ) (in-s : k < length s) where
+  pub push-mark : (from : ℕ) → Pushed graph code (set s k 1) above above′ from → Pushed graph code s above above′ from
+  push-mark from p = record { flow = p .flow; more = p .more; kept = λ x lt n. p .kept x lt (mark-grows s k (x + 256) in-s n) }
+
+  block-mark : at s k ≡ 0 → Blocked graph code (set s k 1) s′ above above′
+      → ((u : ℕ) → u < 256 → u ≡ k → OutDone graph code s′ above u)
+      → ((u : ℕ) → u < 256 → u + 256 ≡ k → Seen s′ (at above u))
+      → Blocked graph code s s′ above above′
+  block-mark z b o i = record {
+    same = b .same;
+    grow = λ i n. b .grow i (mark-grows s k i in-s n);
+    done = done-mark graph code s s′ above k (b .done) o i;
+    fewer = let x = b .fewer in let y = zeros-mark s k in-s z in omega arith;
+    long = b .long ∙ length-set s k 1;
+  }
+
+-- ---- expand
+
+-- a unit that leaves a node that no legal set holds leaves no trace
+push-out : (graph code s above : List ℕ) (from : ℕ) → Flow graph code above → ((C : ℕ → Bool) → Legal graph code C → C from ≡ true → ⊥) → Pushed graph code s above above from
+push-out graph code s above from flow out = record { flow = flow; more = more; kept = λ x lt n. refl }
+  where
+    more : (u : ℕ) → u < 256 → Inside graph code u → count u above ≡ count u above + bit (eqb from u)
+    more u lt i = let w : bit (eqb from u) ≡ 0 = ap bit (ne-eqb from u (λ e. out (i .members) (i .legal) (ap (i .members) e ∙ i .holds))) in omega arith
+
+pub expand-leaf : (graph code s above : List ℕ) (p from : ℕ) → Flow graph code above → (p ≡ from) ⊎ (at code p ≡ 0) → 3 ≤ at code p → Pushed graph code s above above from
+unfolding Legal
+expand-leaf graph code s above p from flow here three = push-out graph code s above from flow (λ C legal t. ⊎-elim (λ h. let l = legal from t .1 in let q = ap (λ (n : ℕ). at code n) h in omega arith) (λ z. omega arith) here)
+
+module _ (graph code s s′ above above′ : List ℕ) (p : ℕ) (low : p < 256) (in-s : p < length s) (z : at s p ≡ 0) (inside : at code p < 3)
+    (b : Blocked graph code (set s p 1) s′ above above′) (all : (i : ℕ) → 0 ≤ i → i < countIn graph p → Entered code s′ (operandIn graph p i)) where
+  -- no operand led on, and p carries no flow
+  pub expand-stuck : at above′ p ≡ p → (Blocked graph code s s′ above above′) × Seen s′ p
+  expand-stuck still = (
+    block-mark graph code s s′ above above′ p in-s z b
+        (λ u lt e. subst (λ (v : ℕ). OutDone graph code s′ above v) (sym e) (record { inside = inside; operands = λ j lt. all j (omega arith) lt; back = λ f. absurd (f (sym (ap (λ (l : List ℕ). at l p) (b .same)) ∙ still)) }))
+        (λ u lt e. absurd (omega arith)),
+    b .grow p (marked s p in-s),
+  )
+
+  -- p carries flow, which can be sent back
+  pub expand-back : (s″ above″ : List ℕ) (from : ℕ) (r : Bool) → Flow graph code above → (p ≡ from) ⊎ (at code p ≡ 0) → ((at above′ p ≡ p) → ⊥)
+      → Ends r (Pushed graph code s′ above′ above″ p) ((Blocked graph code s′ s″ above′ above″) × Entered code s″ p)
+      → Ends r (Pushed graph code s above above″ from) ((Blocked graph code s s″ above above″) × Seen s″ p)
+  unfolding Entered
+  expand-back s″ above″ from r flow here moved e = ends-map r
+      (λ d. subst (λ (v : ℕ). Pushed graph code s above above″ v) is-from (push-mark graph code s s′ above above″ p in-s p (push-after graph code (set s p 1) s′ above above′ above″ b p d)))
+      (λ d. (
+        block-mark graph code s s″ above above″ p in-s z (block-after graph code (set s p 1) s′ above above′ above″ b s″ (d .0))
+            (λ u lt e. subst (λ (v : ℕ). OutDone graph code s″ above v) (sym e) (record { inside = inside; operands = λ j lt. entered-grows code s′ s″ (operandIn graph p j) (d .0 .grow) (all j (omega arith) lt); back = λ f. d .1 .1 not-zero }))
+            (λ u lt e. absurd (omega arith)),
+        d .0 .grow p (b .grow p (marked s p in-s)),
+      ))
+      e
+    where
+      still : (at above p ≡ p) → ⊥
+      still e = moved (ap (λ (l : List ℕ). at l p) (b .same) ∙ e)
+
+      not-zero : (at code p ≡ 0) → ⊥
+      not-zero e = still (flow .still p low e)
+
+      is-from : p ≡ from
+      is-from = ⊎-elim (λ e. e) (λ e. absurd (not-zero e)) here
+
+-- ---- scan
+
+pub scan-more : (graph code s s′ s″ above above′ above″ : List ℕ) (p j from : ℕ) (r : Bool) → Blocked graph code s s′ above above′ → Entered code s′ (operandIn graph p j)
+    → Ends r (Pushed graph code s′ above′ above″ from) ((Blocked graph code s′ s″ above′ above″) × ((i : ℕ) → j + 1 ≤ i → i < countIn graph p → Entered code s″ (operandIn graph p i)))
+    → Ends r (Pushed graph code s above above″ from) ((Blocked graph code s s″ above above″) × ((i : ℕ) → j ≤ i → i < countIn graph p → Entered code s″ (operandIn graph p i)))
+scan-more graph code s s′ s″ above above′ above″ p j from r b e d = ends-map r (push-after graph code s s′ above above′ above″ b from)
+    (λ x. (block-after graph code s s′ above above′ above″ b s″ (x .0), λ i le lt. go x i le lt (ℕ-discrete j i))) d
+  where
+    go : (Blocked graph code s′ s″ above′ above″) × ((i : ℕ) → j + 1 ≤ i → i < countIn graph p → Entered code s″ (operandIn graph p i)) → (i : ℕ) → j ≤ i → i < countIn graph p → Dec (j ≡ i) → Entered code s″ (operandIn graph p i)
+    go x i le lt (yes q) = subst (λ (n : ℕ). Entered code s″ (operandIn graph p n)) q (entered-grows code s′ s″ (operandIn graph p j) (x .0 .grow) e)
+    go x i le lt (no f) = x .1 i (omega arith) lt
+
+-- ---- enter
+
+pub enter-late : (graph code s above : List ℕ) (x from : ℕ) → Flow graph code above → Link graph code from x → at code x ≡ 4 → Pushed graph code s above above from
+unfolding Legal Link Touch
+enter-late graph code s above x from flow link four = push-out graph code s above from flow (λ C legal t. ⊎-elim (in-set C legal) (λ m. ⊎-elim (λ e. in-set C legal (subst (λ (n : ℕ). C n ≡ true) (m .4) e)) (λ f. f .1 (ap (λ (n : ℕ). at code n) (m .4) ∙ four)) (legal (m .0) (m .2) .2 (m .1) (m .3))) (link C legal t))
+  where
+    in-set : (C : ℕ → Bool) → Legal graph code C → C x ≡ true → ⊥
+    in-set C legal t = let l = legal x t .1 in omega arith
+
+pub entered-inside : (code s : List ℕ) (x : ℕ) → at code x ≡ 0 → Seen s x → Entered code s x
+unfolding Entered
+entered-inside code s x z n = (λ _. n, λ nz. absurd (nz z), λ f. omega arith)
+
+pub entered-leaf : (code s : List ℕ) (x : ℕ) → ((at code x ≡ 0) → ⊥) → ((at code x ≡ 4) → ⊥) → Seen s (x + 256) → Entered code s x
+unfolding Entered
+entered-leaf code s x nz nf n = (λ z. absurd (nz z), λ _. n, nf)
+
+flow-store : (graph code above : List ℕ) (x from : ℕ) → Flow graph code above → x < 256 → from < 256 → x ≤ from → Link graph code from x → ((at code x ≡ 0) → ⊥) → Flow graph code (set above x from)
+flow-store graph code above x from flow lt lf up link nz = record {
+  above-len = length-set above x from ∙ flow .above-len;
+  low = λ u l. low u l (ℕ-discrete u x);
+  rise = λ u l. rise u l (ℕ-discrete u x);
+  link = λ u l. linked u l (ℕ-discrete u x);
+  still = λ u l e. other u (λ q. nz (subst (λ (v : ℕ). at code v ≡ 0) q e)) ∙ flow .still u l e;
+}
+  where
+    here : at (set above x from) x ≡ from
+    here = let q = flow .above-len in getD-set-same above x from 0 (omega arith)
+
+    other : (u : ℕ) → ((u ≡ x) → ⊥) → at (set above x from) u ≡ at above u
+    other u f = getD-set-other above x u from 0 f
+
+    low : (u : ℕ) → u < 256 → Dec (u ≡ x) → at (set above x from) u < 256
+    low u l (yes e) = rw (e, here) lf
+    low u l (no f) = rw (other u f) (flow .low u l)
+
+    rise : (u : ℕ) → u < 256 → Dec (u ≡ x) → u ≤ at (set above x from) u
+    rise u l (yes e) = rw (e, here) up
+    rise u l (no f) = rw (other u f) (flow .rise u l)
+
+    linked : (u : ℕ) → u < 256 → Dec (u ≡ x) → Link graph code (at (set above x from) u) u
+    linked u l (yes e) = rw (e, here) link
+    linked u l (no f) = rw (other u f) (flow .link u l)
+
+module _ (graph code s s′ above above′ : List ℕ) (x from : ℕ) (low : x < 256) (in-s : x + 256 < length s) (z : at s (x + 256) ≡ 0) (nz : (at code x ≡ 0) → ⊥) (nf : (at code x ≡ 4) → ⊥) where
+  pub enter-push : from < 256 → x ≤ from → Link graph code from x → Pushed graph code (set s (x + 256) 1) above above′ (at above x) → Pushed graph code s above (set above′ x from) from
+  enter-push lf up link p = record { flow = flow-store graph code above′ x from (p .flow) low lf up link nz; more = more; kept = λ u l n. kept u l n (ℕ-discrete u x) }
+    where
+      -- x was entered, so the search kept what stands there
+      held : at above′ x ≡ at above x
+      held = p .kept x low (marked s (x + 256) in-s)
+
+      more : (u : ℕ) → u < 256 → Inside graph code u → count u (set above′ x from) ≡ count u above + bit (eqb from u)
+      more u l n =
+          let a = p .more u l n in
+          let q = p .flow .above-len in
+          let c = count-set u from above′ x (omega arith) in
+          let d = ap (λ (v : ℕ). bit (eqb v u)) held in
+          omega arith
+
+      kept : (u : ℕ) → u < 256 → Seen s (u + 256) → Dec (u ≡ x) → at (set above′ x from) u ≡ at above u
+      kept u l n (yes e) = absurd (n (ap (λ (v : ℕ). at s (v + 256)) e ∙ z))
+      kept u l n (no f) = getD-set-other above′ x u from 0 f ∙ p .kept u l (mark-grows s (x + 256) (u + 256) in-s n)
+
+  pub enter-block : Blocked graph code (set s (x + 256) 1) s′ above above′ → Seen s′ (at above x) → (Blocked graph code s s′ above above′) × Entered code s′ x
+  enter-block b n = (
+    block-mark graph code s s′ above above′ (x + 256) in-s z b
+        (λ u lt e. absurd (omega arith)) (λ u lt e. subst (λ (v : ℕ). Seen s′ (at above v)) (sym (cancel u e)) n),
+    entered-leaf code s′ x nz nf (b .grow (x + 256) (marked s (x + 256) in-s)),
+  )
+    where
+      cancel : (u : ℕ) → u + 256 ≡ x + 256 → u ≡ x
+      cancel u e = omega arith

@@ -1,0 +1,13 @@
+pub mod Bools
+pub mod Sums
+pub mod Ascending
+pub mod Laws
+pub mod Marks
+pub mod Listing
+pub mod Duality
+pub mod Failed
+pub mod Exchange
+pub mod Deepening
+pub mod Joined
+pub mod Bridge
+pub mod WalkFirst

@@ -1,0 +1,67 @@
+//! Times questions about cuts on sheets of 256 nodes with six operands each: some cut of at most six leaves, and the chosen one. The time of
+//! reading the sheet, which each call begins with, is taken off.
+use maps_tests::library::{any_cut, chosen_cut, read, Tables};
+use maps_tests::made::{numbers, spelled};
+use maps_tests::random::Random;
+use maps_tests::reader::{Node, Sheet};
+use std::hint::black_box;
+use std::time::Instant;
+
+/// The least time of several runs, in microseconds.
+fn time(mut work: impl FnMut()) -> f64 {
+    let mut best = f64::INFINITY;
+    for _ in 0..20 {
+        let start = Instant::now();
+        work();
+        best = best.min(start.elapsed().as_secs_f64() * 1e6);
+    }
+    best
+}
+
+/// 256 nodes, of which the first `inputs` are inputs; a table reads six of the `reach` nodes below it.
+fn sheet(random: &mut Random, inputs: u32, reach: u32) -> Sheet {
+    let nodes = (0..256u32)
+        .map(|own| {
+            if own < inputs {
+                return Node { kind: 0, output: false, delay: 0, latency: 0, operands: Vec::new() };
+            }
+            let operands = (0..6).map(|_| own - random.within(1, reach.min(own))).collect();
+            Node { kind: 1, output: own > 250, delay: 1, latency: 0, operands }
+        })
+        .collect();
+    Sheet { leaves: 6, top: 8, horizon: 100, nodes, differences: Vec::new() }
+}
+
+fn main() {
+    println!("{:<44} {:>22} {:>22}", "sheet, allowed leaves", "some cut: mean, worst", "chosen: mean, worst");
+    for (inputs, reach) in [(6, 6), (6, 12), (6, 40), (6, 255), (12, 12), (40, 40)] {
+        for density in [1, 2, 8] {
+            let mut random = Random::new(inputs as u64 * 1000 + reach as u64);
+            let bytes = spelled(&numbers(&sheet(&mut random, inputs, reach)));
+            let allowed: Vec<bool> = (0..256).map(|u| u < inputs || (density > 1 && random.once_in(density))).collect();
+            let mut tables = Tables::filled_with(0);
+            let reading = time(|| {
+                black_box(read(&bytes, &mut tables));
+            });
+            let mut figures = Vec::new();
+            for call in [any_cut, chosen_cut] {
+                let (mut sum, mut worst, mut count) = (0.0f64, 0.0f64, 0);
+                for v in (inputs..256).step_by(5) {
+                    let one = time(|| {
+                        black_box(call(&bytes, &allowed, v, 6));
+                    }) - reading;
+                    sum += one;
+                    worst = worst.max(one);
+                    count += 1;
+                }
+                figures.push((sum / count as f64, worst));
+            }
+            let leaves = if density == 1 { "inputs".to_string() } else { format!("inputs and one in {density}") };
+            println!(
+                "{:<44} {:>9.1} {:>9.1} us {:>9.1} {:>9.1} us",
+                format!("{inputs} inputs, reach {reach}, {leaves}"),
+                figures[0].0, figures[0].1, figures[1].0, figures[1].1
+            );
+        }
+    }
+}
