@@ -1,0 +1,262 @@
+-- The rounds of passes: how they begin, what each end of a round says, and that a round that is not the last raises the labels.
+use Prim.Native.Nat.{ℕ, zero, suc, _+_, _-_, _*_, _≤_, _<_, max}
+use mathlib.Core.Path.{_≡_, refl, sym, subst, ap, _∙_}
+use mathlib.Core.Bool.{Bool, true, false}
+use mathlib.Core.List.{List, [], _∷_, _++_, foldr, List·Memᴰ}
+use native.Mathlib.Numerals.{add-one}
+use native.Mathlib.Omega.{arith}
+use lib.Dec.{leb}
+use lib.ListN.{length, getD, replicate}
+use borrow.Author.Tests.{leb-true, leb-false}
+use Rattle.maps.specs.Label.{Label, label, _≼_}
+use Rattle.maps.specs.Lists.{All, below}
+use Rattle.maps.specs.Sheet.{Sheet, Difference, node, size, latency}
+use Rattle.maps.specs.Legal.{readyOf, Least, latencyOfAll}
+use Rattle.maps.specs.Least.{at, leastLabels, late, least}
+use Rattle.maps.specs.Outcome.{cutless}
+use Rattle.maps.proofs.Over.{total, length-over, getD-over}
+use Rattle.maps.proofs.Member.{All-at, All-of, All-ids, All-get, mem-out, below-out}
+use Rattle.maps.proofs.Fix.{key, label-path, is-least, is-late}
+use Rattle.maps.proofs.Planned.{delays, operands-below, least-right}
+use Rattle.sheet.specs.Table.{latencyIn, operandIn, noDifference, differenceAt, Tabled}
+use Rattle.sheet.specs.declared.reader.Header as R
+use Rattle.schedule.specs.Guard.{Kept}
+use Rattle.schedule.specs.Settle.{Pass, Passing}
+use Rattle.schedule.specs.Hold.{Holding}
+use Rattle.schedule.specs.Lookup.{Ends, labelIn, labelsIn, Linked}
+use Rattle.schedule.specs.Level.{HoldsAt}
+use Rattle.schedule.specs.Going.{Given, AllKept, Going}
+use Rattle.schedule.specs.Turn.{Nothing}
+use Rattle.schedule.specs.Mark.{heldIn, HeldAll}
+use Rattle.schedule.specs.Round.{First, Relaxed, heightIn, heightMost}
+use Rattle.schedule.proofs.Closed.{Closed, well-closed, inside, ready-step}
+use Rattle.schedule.proofs.Guard.{legal-node, legal-diffs, ok-legal}
+use Rattle.schedule.proofs.Forced.{ok-same}
+use Rattle.schedule.proofs.Passes.{pass-start, pass-again, pass-least, pass-floats, Moved, height, height-grows, height-bound}
+use Rattle.schedule.proofs.Loop.{passing-pass, passing-grows, passing-heeds}
+use Rattle.schedule.proofs.TurnTables.{node-in, latency-is, delay-is, difference-in, kept-at, holds-at}
+
+-- how far the labels have risen, as a sum
+height-sum : (n top : ℕ) (steps levels : List ℕ) → heightIn n top steps levels ≡ total (λ v. key (top + 1) (labelIn steps levels v)) n
+unfolding heightIn
+height-sum zero top steps levels = refl
+height-sum (suc n) top steps levels =
+    ap (λ (h : ℕ). h + (getD steps n 0 * (top + 1) + getD levels n 0)) (height-sum n top steps levels)
+
+module _ {S : Sheet} {graph differences : List ℕ} {limits : R.Header} (g : Given S graph differences limits) where
+  closed : Closed S
+  closed = well-closed S (g .well)
+
+  height-is : (steps levels : List ℕ) → heightIn (limits .nodes) (limits .top) steps levels ≡ height S (labelIn steps levels)
+  height-is steps levels =
+      ap (λ (n : ℕ). heightIn n (limits .top) steps levels) (g .nodes) ∙ ap (λ (t : ℕ). heightIn (size S) t steps levels) (g .top)
+      ∙ height-sum (size S) (S .top) steps levels
+
+  most-is : heightMost limits ≡ size S * ((S .horizon + 1) * (S .top + 1))
+  unfolding heightMost
+  most-is = rw (g .nodes, g .horizon, g .top)
+
+  -- the start
+  pub first-going : {first next kept steps levels : List ℕ} → Linked differences (limits .differences) first next → AllKept S kept
+      → First graph steps levels (limits .nodes) (limits .horizon) → Going S graph differences limits first next kept steps levels
+  first-going linked kept f =
+      record {
+        given = g;
+        linked = linked;
+        allKept = kept;
+        timed = record {
+          steps-wide = f .steps-wide;
+          levels-wide = f .levels-wide;
+          ends = λ v l.
+              let k : v < limits .nodes = omega (arith, g .nodes) in
+              omega (arith, f .steps-zero v, f .ends v k, latency-is g v k, g .horizon);
+        };
+      }
+
+  pub first-pass : {steps levels : List ℕ} → First graph steps levels (limits .nodes) (limits .horizon) → Pass S (labelIn steps levels) 0
+  first-pass {steps} {levels} f =
+      pass-start S (delays S (g .well)) (labelIn steps levels) (λ v l.
+      let k : v < limits .nodes = omega (arith, g .nodes) in label-path (f .steps-zero v) (f .levels-delay v k ∙ delay-is g v k))
+
+  pub first-late : (v : ℕ) → v < limits .nodes → limits .horizon < latencyIn graph v → Nothing S
+  first-late v l h M legal = omega (arith, legal .nodes v (node-in g v l .0) .ends, latency-is g v l, g .horizon)
+
+  -- the marks of a table are closed under holding
+  held-holding : (steps levels held : List ℕ) → HeldAll graph differences steps held (limits .nodes) (limits .differences) → Holding S (labelIn steps levels) (heldIn held)
+  held-holding steps levels held h =
+      record {
+        ground = λ v l e. h .ground v (omega (arith, g .nodes)) e;
+        operands = λ v u l r p near.
+            All-at (Pulls v) (node S v .operands) (All-ids (Pulls v) 0 (node S v .operands) (λ j k. operand v l j k)) (mem-out u (node S v .operands) r) p near;
+        differences = λ d m. All-at Pushes (S .differences) (All-ids Pushes noDifference (S .differences) (λ i l. target i l)) m;
+      }
+    where
+      Pulls : ℕ → ℕ → Type 0
+      Pulls v u = heldIn held u ≡ true → getD steps v 0 ≤ getD steps u 0 + latency S u + 1 → heldIn held v ≡ true
+
+      operand : (v : ℕ) → v < size S → (j : ℕ) → j < length (node S v .operands) → Pulls v (getD (node S v .operands) j 0)
+      operand v l j k p near =
+          let n : v < limits .nodes = omega (arith, g .nodes) in
+          let w = node-in g v n .1 in
+          let u = getD (node S v .operands) j 0 in
+          let e : operandIn graph v j ≡ u = g .tabled .operands v j w k in
+          let b : u < v = All-get (λ u. u < v) 0 (node S v .operands) (operands-below S (g .well) v) j k in
+          h .operands v n j (omega (arith, g .tabled .counts v w))
+          (record {
+            holds = subst (λ (x : ℕ). heldIn held x ≡ true) (sym e) p;
+            close = omega (arith, ap (λ (x : ℕ). getD steps x 0) e, ap (latencyIn graph) e, latency-is g u (omega arith));
+          })
+
+      Pushes : Difference → Type 0
+      Pushes d = heldIn held (d .from) ≡ true → getD steps (d .to) 0 + d .minus ≤ getD steps (d .from) 0 + d .plus → heldIn held (d .to) ≡ true
+
+      target : (i : ℕ) → i < length (S .differences) → Pushes (differenceAt S i)
+      target i l p near =
+          let from = g .listed .froms i l in
+          let to = g .listed .tos i l in
+          subst (λ (x : ℕ). heldIn held x ≡ true) to
+          (h .targets i (omega (arith, g .count)) (subst (λ (x : ℕ). heldIn held x ≡ true) (sym from) p)
+          (omega (arith, ap (λ (x : ℕ). getD steps x 0) from, ap (λ (x : ℕ). getD steps x 0) to, g .listed .pluses i l, g .listed .minuses i l)))
+
+-- after a pass that settled every node
+module _ {S : Sheet} {graph differences : List ℕ} {limits : R.Header} {first next kept steps levels : List ℕ}
+    (going : Going S graph differences limits first next kept steps levels) (steps₀ levels₀ : List ℕ) (p : Pass S (labelIn steps₀ levels₀) 0)
+    (q : Passing S (labelIn steps₀ levels₀) (size S) (labelIn steps levels)) where
+  g : Given S graph differences limits
+  g = going .given
+
+  ended : Pass S (labelIn steps levels) (size S)
+  ended = passing-pass S (closed g) (labelIn steps₀ levels₀) p (size S) (labelIn steps levels) q
+
+  -- every difference holds
+  pub round-least : ((i : ℕ) → i < limits .differences → HoldsAt differences steps i) → Least S (S .horizon) (labelIn steps levels)
+  round-least h =
+      pass-least S (closed g) (labelIn steps levels) ended (S .horizon)
+      (λ v l. record { into = λ d m e. All-at (Kept (λ u. getD steps u 0)) (S .differences) all m }) (going .timed .ends)
+    where
+      all : All (Kept (λ u. getD steps u 0)) (S .differences)
+      all =
+          All-ids (Kept (λ u. getD steps u 0)) noDifference (S .differences) (λ i l.
+          let k : i < limits .differences = omega (arith, g .count) in kept-at g steps i k (h i k))
+
+  -- a node floats
+  pub round-floats : (held : List ℕ) → HeldAll graph differences steps held (limits .nodes) (limits .differences) → (v : ℕ) → v < limits .nodes → heldIn held v ≡ false → Nothing S
+  round-floats held h v l e M legal =
+      pass-floats S (closed g) (labelIn steps levels) ended (heldIn held) (held-holding g steps levels held h) v (node-in g v l .0) e M (S .horizon) legal
+
+  -- a difference does not hold: its source has risen
+  pub round-again : (i : ℕ) → i < limits .differences → (HoldsAt differences steps i → ⊥)
+      → Going S graph differences limits first next kept steps levels
+      × Pass S (labelIn steps levels) 0
+      × (heightIn (limits .nodes) (limits .top) steps₀ levels₀ < heightIn (limits .nodes) (limits .top) steps levels)
+      × (heightIn (limits .nodes) (limits .top) steps levels ≤ heightMost limits)
+  round-again i l fails = (
+    going,
+    pass-again S (labelIn steps levels) (size S) ended,
+    omega (arith, height-is g steps₀ levels₀, height-is g steps levels, height-grows S (labelIn steps₀ levels₀) (labelIn steps levels) moved),
+    omega (arith, height-is g steps levels, most-is g, height-bound S (labelIn steps levels) (S .horizon) (ended .high) (λ v k. omega (arith, going .timed .ends v k))),
+  )
+    where
+      d : Difference
+      d = differenceAt S i
+
+      unkept : getD steps (d .to) 0 + d .minus < getD steps (d .from) 0 + d .plus
+      unkept = go (leb (getD steps (d .from) 0 + d .plus) (getD steps (d .to) 0 + d .minus)) refl
+        where
+          go : (t : Bool) → leb (getD steps (d .from) 0 + d .plus) (getD steps (d .to) 0 + d .minus) ≡ t → getD steps (d .to) 0 + d .minus < getD steps (d .from) 0 + d .plus
+          go true e = absurd (fails (holds-at g steps i l (leb-true _ _ e)))
+          go false e = leb-false _ _ e
+
+      m : List·Memᴰ d (S .differences)
+      m = difference-in g i l
+
+      moved : Moved S (labelIn steps₀ levels₀) (labelIn steps levels)
+      moved =
+          record {
+            flat = p .high;
+            on = passing-grows S (closed g) (labelIn steps₀ levels₀) p (size S) (labelIn steps levels) q;
+            who = d .from;
+            counts = inside S (closed g) d m .0;
+            moves = λ e.
+                omega (
+                  arith,
+                  unkept,
+                  passing-heeds S (closed g) (labelIn steps₀ levels₀) p (size S) (labelIn steps levels) q d m (inside S (closed g) d m .1),
+                  ap (λ (a : Label). a .step) e,
+                );
+          }
+
+-- the least labels are those of the tables, node by node
+least-same : (S : Sheet) → Closed S → (H : ℕ) (L R : ℕ → Label) → ((v : ℕ) → v < size S → R v ≡ L v) → Least S H L → Least S H R
+least-same S c H L R e h =
+    record {
+      legal = ok-legal S R c H
+          (λ v l. ok-same S (c .ordered) L R v (λ u q. e u (omega arith)) (legal-node S L (h .legal) v l))
+          (λ v l. record {
+            into = λ d m w.
+                omega (
+                  arith,
+                  legal-diffs S L (h .legal) v .into d m w,
+                  ap (λ (a : Label). a .step) (e (d .from) (inside S c d m .0)),
+                  ap (λ (a : Label). a .step) (e (d .to) (inside S c d m .1)),
+                );
+          })
+          (λ v l. omega (arith, ap (λ (a : Label). a .step) (e v l), h .legal .nodes v l .ends));
+      least = λ M G ok v l. subst (λ (a : Label). a ≼ M v) (sym (e v l)) (h .least M G ok v l);
+    }
+
+-- what the end of all rounds says of the defined labels
+module _ {S : Sheet} {graph differences : List ℕ} {limits : R.Header} (g : Given S graph differences limits) (cuts : cutless S ≡ []) where
+  labels-least : (steps levels : List ℕ) → Least S (S .horizon) (labelIn steps levels) → leastLabels S ≡ least (labelsIn (limits .nodes) steps levels)
+  labels-least steps levels h =
+      is-least S (least-right S (g .well) cuts) (labelsIn (limits .nodes) steps levels) (length-over (labelIn steps levels) (label 0 0) (limits .nodes) ∙ g .nodes)
+      (least-same S (closed g) (S .horizon) (labelIn steps levels) (at (labelsIn (limits .nodes) steps levels))
+      (λ v l. getD-over (labelIn steps levels) (label 0 0) (limits .nodes) v (omega (arith, g .nodes))) h)
+
+  pub labels-late : Nothing S → leastLabels S ≡ late
+  labels-late h = is-late S (least-right S (g .well) cuts) h
+
+  pub labels-end : (steps levels : List ℕ) (r : Bool) → Relaxed S steps levels r
+      → Ends r (leastLabels S ≡ least (labelsIn (limits .nodes) steps levels)) (leastLabels S ≡ late)
+  labels-end steps levels true h = labels-least steps levels h
+  labels-end steps levels false h = labels-late h
+
+-- the greatest of x 0, .. x (n - 1)
+abbrev pub most : (ℕ → ℕ) → ℕ → ℕ
+most x n = foldr (λ v s. max (x v) s) 0 (below n)
+
+pub most-more : (x : ℕ → ℕ) (n : ℕ) → most x (n + 1) ≡ max (most x n) (x n)
+most-more x n = rw (add-one n) (go (below n))
+  where
+    go : (vs : List ℕ) → foldr (λ v s. max (x v) s) 0 (vs ++ (n ∷ [])) ≡ max (foldr (λ v s. max (x v) s) 0 vs) (x n)
+    go [] = omega arith
+    go (v ∷ vs) = omega (arith, go vs)
+
+most-same : (x y : ℕ → ℕ) (vs : List ℕ) → All (λ v. x v ≡ y v) vs → foldr (λ v s. max (x v) s) 0 vs ≡ foldr (λ v s. max (y v) s) 0 vs
+most-same x y [] h = refl
+most-same x y (v ∷ vs) h = omega (arith, most-same x y vs (h .1), h .0)
+
+pub latency-is-most : (S : Sheet) (graph steps levels : List ℕ) (n : ℕ) → n ≤ 256 → Tabled S graph → n ≡ size S
+    → most (λ v. getD steps v 0 + latencyIn graph v) n ≡ latencyOfAll S (at (labelsIn n steps levels))
+latency-is-most S graph steps levels n few t e =
+    most-same (λ v. getD steps v 0 + latencyIn graph v) (λ v. readyOf S (at (labelsIn n steps levels)) v .step) (below n)
+    (All-of _ (below n) (λ v m. each v (below-out n v m))) ∙ ap (λ (k : ℕ). most (λ v. readyOf S (at (labelsIn n steps levels)) v .step) k) e
+  where
+    each : (v : ℕ) → v < n → getD steps v 0 + latencyIn graph v ≡ readyOf S (at (labelsIn n steps levels)) v .step
+    each v l =
+        omega (
+          arith,
+          ready-step (latency S v) (at (labelsIn n steps levels) v),
+          ap (λ (a : Label). a .step) (getD-over (labelIn steps levels) (label 0 0) n v l),
+          t .latencies v (omega arith),
+        )
+
+-- the first steps
+pub zeros : (n v : ℕ) → _≡_ {A = ℕ} (getD (replicate n 0) v 0) 0
+zeros zero v = refl
+zeros (suc n) zero = refl
+zeros (suc n) (suc v) = zeros n v
+
+-- what is left to rise
+pub closer : (most h k : ℕ) → h < k → k ≤ most → most - k < most - h
+closer most h k p q = omega arith

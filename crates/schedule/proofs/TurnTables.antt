@@ -1,0 +1,88 @@
+-- What the tables and the limits of a well-formed sheet keep within, and its labels too while each node ends within the horizon.
+use Prim.Native.Nat.{ℕ, _≤_, _<_}
+use mathlib.Core.Path.{_≡_, ap}
+use mathlib.Core.List.{List, List·Memᴰ}
+use native.Mathlib.Omega.{arith}
+use lib.ListN.{length, getD}
+use Rattle.maps.specs.Sheet.{Sheet, node, size, latency}
+use Rattle.maps.specs.WellFormed.{WellDifference}
+use Rattle.maps.proofs.Member.{All-of, All-get}
+use Rattle.sheet.specs.Table.{latencyIn, delayIn, toIn, noDifference, differenceAt, Falling}
+use Rattle.sheet.specs.declared.reader.Header as R
+use Rattle.sheet.proofs.Tables.{falling}
+use Rattle.schedule.specs.Guard.{Kept}
+use Rattle.schedule.specs.Lookup.{Soon}
+use Rattle.schedule.specs.Level.{Summed, HoldsAt}
+use Rattle.schedule.specs.Going.{Given, Timed}
+
+module _ {S : Sheet} {graph differences : List ℕ} {limits : R.Header} (g : Given S graph differences limits) where
+  pub few-nodes : limits .nodes ≤ 256
+  few-nodes = omega (arith, g .nodes, g .well .size .most)
+
+  pub few-differences : limits .differences ≤ 1024
+  few-differences = omega (arith, g .count, g .well .count .most)
+
+  pub node-in : (v : ℕ) → v < limits .nodes → (v < size S) × (v < 256)
+  node-in v l = (omega (arith, g .nodes), omega (arith, few-nodes))
+
+  pub latency-is : (v : ℕ) → v < limits .nodes → latencyIn graph v ≡ latency S v
+  latency-is v l = g .tabled .latencies v (node-in v l .1)
+
+  pub delay-is : (v : ℕ) → v < limits .nodes → delayIn graph v ≡ node S v .delay
+  delay-is v l = g .tabled .delays v (node-in v l .1)
+
+  pub graph-falls : Falling graph
+  graph-falls = falling S graph (g .well) (g .tabled)
+
+  listed-in : (i : ℕ) → i < limits .differences → i < length (S .differences)
+  listed-in i l = omega (arith, g .count)
+
+  pub difference-in : (i : ℕ) → i < limits .differences → List·Memᴰ (differenceAt S i) (S .differences)
+  difference-in i l =
+      All-get (λ d. List·Memᴰ d (S .differences)) noDifference (S .differences) (All-of _ (S .differences) (λ d m. m)) i (listed-in i l)
+
+  well-at : (i : ℕ) → i < limits .differences → WellDifference (size S) (differenceAt S i)
+  well-at i l = All-get (WellDifference (size S)) noDifference (S .differences) (g .well .differences) i (listed-in i l)
+
+  pub targets : (i : ℕ) → i < limits .differences → toIn differences i < 256
+  targets i l = omega (arith, g .listed .tos i (listed-in i l), well-at i l .to, g .well .size .most)
+
+  module _ (steps : List ℕ) where
+    -- what the table says of difference i, and the difference itself
+    pub kept-at : (i : ℕ) → i < limits .differences → HoldsAt differences steps i → Kept (λ u. getD steps u 0) (differenceAt S i)
+    kept-at i l h =
+        let k = listed-in i l in
+        omega (
+          arith,
+          ap (λ (u : ℕ). getD steps u 0) (g .listed .froms i k),
+          ap (λ (u : ℕ). getD steps u 0) (g .listed .tos i k),
+          g .listed .pluses i k,
+          g .listed .minuses i k,
+        )
+
+    pub holds-at : (i : ℕ) → i < limits .differences → Kept (λ u. getD steps u 0) (differenceAt S i) → HoldsAt differences steps i
+    holds-at i l h =
+        let k = listed-in i l in
+        omega (
+          arith,
+          ap (λ (u : ℕ). getD steps u 0) (g .listed .froms i k),
+          ap (λ (u : ℕ). getD steps u 0) (g .listed .tos i k),
+          g .listed .pluses i k,
+          g .listed .minuses i k,
+        )
+
+  module _ {steps levels : List ℕ} (t : Timed S steps levels) where
+    pub soon-all : (u : ℕ) → u < limits .nodes → Soon graph steps u
+    soon-all u l = omega (arith, latency-is u l, t .ends u (node-in u l .0), g .well .horizon .most)
+
+    pub summed-all : (i : ℕ) → i < limits .differences → Summed differences steps i
+    summed-all i l =
+        let k = listed-in i l in
+        let w = well-at i l in
+        let d = differenceAt S i in
+        record {
+          from = omega (arith, g .listed .froms i k, w .from, g .well .size .most);
+          to = targets i l;
+          ahead = omega (arith, ap (λ (u : ℕ). getD steps u 0) (g .listed .froms i k), g .listed .pluses i k, w .plus, t .ends (d .from) (w .from), g .well .horizon .most);
+          behind = omega (arith, ap (λ (u : ℕ). getD steps u 0) (g .listed .tos i k), g .listed .minuses i k, w .minus, t .ends (d .to) (w .to), g .well .horizon .most);
+        }

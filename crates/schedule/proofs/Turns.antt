@@ -1,0 +1,72 @@
+-- A node's turn, and the turns of a pass: the label that settles a node is written to the tables, or it ends after the horizon.
+use Prim.Native.Nat.{ℕ, _+_, _≤_, _<_, min}
+use mathlib.Core.Path.{_≡_, refl, sym, subst, _∙_}
+use mathlib.Core.Bool.{Bool, true, false}
+use mathlib.Core.List.{List}
+use native.Mathlib.Numerals.{add-one}
+use native.Mathlib.Omega.{arith}
+use lib.Dec.{eqb}
+use lib.ListN.{getD, set, length-set}
+use lib.Seq.{getD-set-same, getD-set-other}
+use borrow.Author.Tests.{eqb-true, eqb-false}
+use Rattle.maps.specs.Label.{Label}
+use Rattle.maps.specs.Sheet.{Sheet, size, latency}
+use Rattle.sheet.specs.Table.{latencyIn}
+use Rattle.sheet.specs.declared.reader.Header as R
+use Rattle.schedule.specs.Settle.{Settles, Pass, Passing, onward}
+use Rattle.schedule.specs.Lookup.{labelIn}
+use Rattle.schedule.specs.Going.{AllKept, Timed, Going}
+use Rattle.schedule.specs.Turn.{Nothing}
+use Rattle.schedule.proofs.Guard.{legal-node, legal-diffs, guarded-under}
+use Rattle.schedule.proofs.Loop.{raised-tables}
+use Rattle.schedule.proofs.TurnTables.{node-in, latency-is}
+
+module _ {S : Sheet} {graph differences : List ℕ} {limits : R.Header} {first next kept steps levels : List ℕ}
+    (going : Going S graph differences limits first next kept steps levels) (v : ℕ) (l : v < limits .nodes) (b : Label) where
+  inside : v < size S
+  inside = node-in (going .given) v l .0
+
+  -- a forced label past the horizon
+  pub turn-late : Pass S (labelIn steps levels) v → Settles S (labelIn steps levels) v b → limits .horizon < min (b .step + latencyIn graph v) 4294967295 → Nothing S
+  turn-late p s h M legal =
+      let up = s .forced .forced M (guarded-under S (labelIn steps levels) (p .guarded) M (S .horizon) legal) (legal-node S M legal v inside) (legal-diffs S M legal v) in
+      omega (arith, up .steps, legal .nodes v inside .ends, latency-is (going .given) v l, going .given .horizon)
+
+  -- the label in the tables
+  pub turn-going : {more : List ℕ} → AllKept S more → min (b .step + latencyIn graph v) 4294967295 ≤ limits .horizon
+      → Going S graph differences limits first next more (set steps v (b .step)) (set levels v (b .level))
+  turn-going all h =
+      record {
+        given = going .given;
+        linked = going .linked;
+        allKept = all;
+        timed = record {
+          steps-wide = length-set steps v (b .step) ∙ going .timed .steps-wide;
+          levels-wide = length-set levels v (b .level) ∙ going .timed .levels-wide;
+          ends = λ u k. ends u k (eqb u v) refl;
+        };
+      }
+    where
+      mine : b .step + latency S v ≤ S .horizon
+      mine = omega (arith, latency-is (going .given) v l, going .given .horizon, going .given .well .horizon .most)
+
+      ends : (u : ℕ) → u < size S → (t : Bool) → eqb u v ≡ t → getD (set steps v (b .step)) u 0 + latency S u ≤ S .horizon
+      ends u k true e =
+          subst (λ (w : ℕ). getD (set steps v (b .step)) w 0 + latency S w ≤ S .horizon) (sym (eqb-true u v e))
+          (omega (arith, getD-set-same steps v (b .step) 0 (omega (arith, going .timed .steps-wide, node-in (going .given) v l .1)), mine))
+      ends u k false e = omega (arith, getD-set-other steps v u (b .step) 0 (eqb-false u v e), going .timed .ends u k)
+
+  -- one more node of the pass
+  pub turn-on : (L : ℕ → Label) → Passing S L v (labelIn steps levels) → Settles S (labelIn steps levels) v b → {steps′ levels′ : List ℕ}
+      → steps′ ≡ set steps v (b .step) → levels′ ≡ set levels v (b .level) → Passing S L (v + 1) (labelIn steps′ levels′)
+  turn-on L q s {steps′} {levels′} e f =
+      subst (λ (xs : List ℕ). Passing S L (v + 1) (labelIn xs levels′)) (sym e)
+      (subst (λ (xs : List ℕ). Passing S L (v + 1) (labelIn (set steps v (b .step)) xs)) (sym f)
+      (subst (λ (k : ℕ). Passing S L k (labelIn (set steps v (b .step)) (set levels v (b .level)))) (sym (add-one v))
+      (onward v (labelIn steps levels) b _ q inside s (raised-tables S steps levels v (b .step) (b .level) (omega (arith, t .steps-wide, w)) (omega (arith, t .levels-wide, w))))))
+    where
+      t : Timed S steps levels
+      t = going .timed
+
+      w : v < 256
+      w = node-in (going .given) v l .1

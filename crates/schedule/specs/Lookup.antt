@@ -1,0 +1,58 @@
+-- What stands in the arrays of the labelling.
+use Prim.Native.Nat.{ℕ, zero, suc, _+_, _*_, _≤_, _<_}
+use mathlib.Core.Path.{_≡_}
+use mathlib.Core.Bool.{Bool, true, false, cond}
+use mathlib.Core.List.{List, map}
+use mathlib.Core.Logic.{_⊎_}
+use lib.Dec.{eqb}
+use lib.ListN.{length, getD}
+use Rattle.maps.specs.Label.{Label, label, plus, ready}
+use Rattle.maps.specs.Lists.{below}
+use Rattle.sheet.specs.Table.{latencyIn, toIn}
+
+-- one of two things, as a test came out
+abbrev pub Ends : Bool → Type 0 → Type 0 → Type 0
+Ends true A B = A
+Ends false A B = B
+
+-- the label of v
+abbrev pub labelIn : (steps levels : List ℕ) → ℕ → Label
+labelIn steps levels v = label (getD steps v 0) (getD levels v 0)
+
+-- the labels of n nodes
+abbrev pub labelsIn : (n : ℕ) (steps levels : List ℕ) → List Label
+labelsIn n steps levels = map (labelIn steps levels) (below n)
+
+-- the label at which u arrives at a node of the given delay
+unfoldable pub arrivalIn : (graph steps levels : List ℕ) (top delay u : ℕ) → Label
+arrivalIn graph steps levels top delay u = plus top (ready (latencyIn graph u) (labelIn steps levels u)) delay
+
+-- the step at which u is ready is a number of the code's
+abbrev pub Soon : (graph steps : List ℕ) → ℕ → Type 0
+Soon graph steps u = getD steps u 0 + latencyIn graph u < 4294967295
+
+-- the kept cut of v: eight numbers, the count first
+abbrev pub keptCount : List ℕ → ℕ → ℕ
+keptCount kept v = getD kept (v * 8) 0
+
+abbrev pub keptLeaf : List ℕ → ℕ → ℕ → ℕ
+keptLeaf kept v j = getD kept (v * 8 + 1 + j) 0
+
+-- the cut that is kept for v is c
+pub record Row (kept : List ℕ) (v : ℕ) (c : List ℕ) : Type 0 where
+  pub count : keptCount kept v ≡ length c
+  pub leaves : (j : ℕ) → j < length c → keptLeaf kept v j ≡ getD c j 0
+
+-- only the row of v differs
+abbrev pub Beside : (v : ℕ) (kept more : List ℕ) → Type 0
+Beside v kept more = (i : ℕ) → (i < v * 8) ⊎ (v * 8 + 8 ≤ i) → getD more i 0 ≡ getD kept i 0
+
+-- the last of the first k differences that has the target v, counted from 1; 0 where there is none
+unfoldable pub lastInto : (differences : List ℕ) → ℕ → ℕ → ℕ
+lastInto d zero v = 0
+lastInto d (suc k) v = cond (eqb (toIn d k) v) (suc k) (lastInto d k v)
+
+-- lists of the differences by their target
+pub record Linked (differences : List ℕ) (m : ℕ) (first next : List ℕ) : Type 0 where
+  pub heads : (v : ℕ) → v < 256 → getD first v 0 ≡ lastInto differences m v
+  pub nexts : (i : ℕ) → i < m → getD next i 0 ≡ lastInto differences i (toIn differences i)

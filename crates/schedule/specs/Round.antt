@@ -1,0 +1,51 @@
+-- What the start, a round and all rounds answer.
+use Prim.Native.Nat.{ℕ, suc, zero, _+_, _*_, _≤_, _<_}
+use mathlib.Core.Path.{_≡_}
+use mathlib.Core.Bool.{Bool}
+use mathlib.Core.List.{List}
+use lib.ListN.{length, getD}
+use Rattle.maps.specs.Sheet.{Sheet}
+use Rattle.maps.specs.Legal.{Least}
+use Rattle.sheet.specs.Table.{delayIn, latencyIn}
+use Rattle.sheet.specs.declared.reader.Header as R
+use Rattle.schedule.specs.declared.labels.Turn.{Turn}
+use Rattle.schedule.specs.declared.labels.Turn.the-variants as Is
+use Rattle.schedule.specs.Settle.{Pass}
+use Rattle.schedule.specs.Lookup.{Ends, labelIn}
+use Rattle.schedule.specs.Going.{Going}
+use Rattle.schedule.specs.Turn.{Nothing}
+
+-- the first labels, each in time; or a latency that is not
+pub record First (graph steps levels : List ℕ) (n horizon : ℕ) : Type 0 where
+  pub steps-wide : length steps ≡ 256
+  pub levels-wide : length levels ≡ 256
+  pub steps-zero : (v : ℕ) → getD steps v 0 ≡ 0
+  pub levels-delay : (v : ℕ) → v < n → getD levels v 0 ≡ delayIn graph v
+  pub ends : (v : ℕ) → v < n → latencyIn graph v ≤ horizon
+
+abbrev pub Started : (graph steps levels : List ℕ) (n horizon : ℕ) → Bool → Type 0
+Started graph steps levels n horizon r =
+    Ends r (First graph steps levels n horizon) ((v : ℕ) × (v < n) × (horizon < latencyIn graph v))
+
+-- how far the labels of n nodes have risen, where a step has the levels up to top
+unfoldable pub heightIn : (n top : ℕ) (steps levels : List ℕ) → ℕ
+heightIn zero top steps levels = 0
+heightIn (suc n) top steps levels = heightIn n top steps levels + (getD steps n 0 * (top + 1) + getD levels n 0)
+
+-- the most that they can within the horizon
+unfoldable pub heightMost : R.Header → ℕ
+heightMost limits = limits .nodes * ((limits .horizon + 1) * (limits .top + 1))
+
+-- least: the labels are the least legal ones. late: nothing is legal within the horizon. again: the labels have risen
+abbrev pub RoundEnds : (S : Sheet) (graph differences : List ℕ) (limits : R.Header) (first next kept steps levels steps' levels' : List ℕ) → Turn → Type 0
+RoundEnds S graph differences limits first next kept steps levels steps' levels' Is.Least = Least S (S .horizon) (labelIn steps' levels')
+RoundEnds S graph differences limits first next kept steps levels steps' levels' Is.Late = Nothing S
+RoundEnds S graph differences limits first next kept steps levels steps' levels' Is.Again =
+    Going S graph differences limits first next kept steps' levels'
+    × Pass S (labelIn steps' levels') 0
+    × (heightIn (limits .nodes) (limits .top) steps levels < heightIn (limits .nodes) (limits .top) steps' levels')
+    × (heightIn (limits .nodes) (limits .top) steps' levels' ≤ heightMost limits)
+
+-- the labels are the least legal ones, or nothing is legal within the horizon
+abbrev pub Relaxed : (S : Sheet) (steps levels : List ℕ) → Bool → Type 0
+Relaxed S steps levels r = Ends r (Least S (S .horizon) (labelIn steps levels)) (Nothing S)
