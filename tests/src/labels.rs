@@ -5,6 +5,7 @@ use crate::reader::{Node, Sheet};
 /// (s, l): compared by step, then by level.
 pub type Label = (u32, u32);
 
+/// A label plus a delay in levels, T being `top`.
 pub fn plus(label: Label, delay: u32, top: u32) -> Label {
     if label.1 + delay <= top {
         (label.0, label.1 + delay)
@@ -13,6 +14,7 @@ pub fn plus(label: Label, delay: u32, top: u32) -> Label {
     }
 }
 
+/// The ready label of a node.
 pub fn ready(node: &Node, label: Label) -> Label {
     if node.latency == 0 {
         label
@@ -37,7 +39,7 @@ pub fn fitting_cuts(sheet: &Sheet) -> Vec<Vec<Vec<u32>>> {
 }
 
 /// The label from which `leaves` carry node v on.
-fn arrival(sheet: &Sheet, labels: &[Label], v: usize, leaves: &[u32]) -> Label {
+pub fn arrival(sheet: &Sheet, labels: &[Label], v: usize, leaves: &[u32]) -> Label {
     let carried = leaves.iter().map(|&u| plus(ready(&sheet.nodes[u as usize], labels[u as usize]), sheet.nodes[v].delay, sheet.top));
     carried.max().unwrap_or((0, 0))
 }
@@ -79,13 +81,17 @@ fn asked(sheet: &Sheet, cuts: &[Vec<Vec<u32>>], labels: &[Label], v: usize) -> L
 
 /// Number and place of grounds 6 and 7, or the least labels.
 pub fn least(sheet: &Sheet) -> Result<Vec<Label>, (u64, u64)> {
-    let cuts = fitting_cuts(sheet);
+    least_over(sheet, &fitting_cuts(sheet))
+}
+
+/// The same, given the fitting cuts.
+pub fn least_over(sheet: &Sheet, cuts: &[Vec<Vec<u32>>]) -> Result<Vec<Label>, (u64, u64)> {
     if let Some(v) = (0..sheet.nodes.len()).find(|&v| sheet.nodes[v].kind == 1 && cuts[v].is_empty()) {
         return Err((6, v as u64));
     }
     let mut labels = vec![(0, 0); sheet.nodes.len()];
     loop {
-        let next: Vec<Label> = (0..labels.len()).map(|v| asked(sheet, &cuts, &labels, v)).collect();
+        let next: Vec<Label> = (0..labels.len()).map(|v| asked(sheet, cuts, &labels, v)).collect();
         if next.iter().zip(&sheet.nodes).any(|(label, node)| label.0 + node.latency > sheet.horizon) {
             return Err((7, 0));
         }

@@ -3,5 +3,6 @@ pub mod cones;
 pub mod labels;
 pub mod library;
 pub mod made;
+pub mod planner;
 pub mod random;
 pub mod reader;

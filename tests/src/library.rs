@@ -1,9 +1,18 @@
 //! The proved library, called through its C interface.
 use crate::reader::Sheet;
 
+/// What reading answers: number and place.
 #[repr(C)]
 #[derive(Clone, Copy, Debug, PartialEq)]
 pub struct ReadAnswer {
+    pub number: u64,
+    pub place: u64,
+}
+
+/// What planning answers: number and place.
+#[repr(C)]
+#[derive(Clone, Copy, Debug, PartialEq)]
+pub struct PlanAnswer {
     pub number: u64,
     pub place: u64,
 }
@@ -12,6 +21,11 @@ extern "C" {
     fn maps_any_cut(sheet: *const u8, length: usize, allowed: *const [u8; 256], v: u32, k: u32, cut: *mut [u32; 8]) -> u32;
     fn maps_cut(sheet: *const u8, length: usize, allowed: *const [u8; 256], v: u32, k: u32, cut: *mut [u32; 8]) -> u32;
     fn maps_read(sheet: *const u8, length: usize, graph: *mut [u32; 3072], differences: *mut [u32; 4096]) -> ReadAnswer;
+}
+
+#[cfg(planner)]
+extern "C" {
+    fn maps_plan(sheet: *const u8, sheet_len: usize, plan: *mut u8, plan_len: usize) -> PlanAnswer;
 }
 
 /// The two tables that a sheet is read into.
@@ -73,4 +87,10 @@ pub fn any_cut(sheet: &[u8], allowed: &[bool], v: u32, k: u32) -> Option<Option<
 /// The chosen one.
 pub fn chosen_cut(sheet: &[u8], allowed: &[bool], v: u32, k: u32) -> Option<Option<Vec<u32>>> {
     question(maps_cut, sheet, allowed, v, k)
+}
+
+/// Plans a sheet into a buffer.
+#[cfg(planner)]
+pub fn plan(sheet: &[u8], buffer: &mut [u8]) -> PlanAnswer {
+    unsafe { maps_plan(sheet.as_ptr(), sheet.len(), buffer.as_mut_ptr(), buffer.len()) }
 }

@@ -7,6 +7,9 @@ mod labels;
 mod level;
 mod pass;
 
+pub use arrive::label_of;
+pub use cuts::keep_cut;
 pub use cuts::lowest_cutless;
 pub use labels::latency;
 pub use labels::least_labels;
+pub use level::codes;

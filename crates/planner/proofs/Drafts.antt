@@ -1,0 +1,172 @@
+-- What planning from the tables rests on, and the outcome that each way out comes to.
+use Prim.Native.Nat.{ℕ, suc, _+_, _≤_, _<_, max}
+use mathlib.Core.Path.{_≡_, refl, sym, ap, _∙_}
+use mathlib.Core.Bool.{true}
+use mathlib.Core.List.{List, [], _∷_, _++_, foldr}
+use native.Mathlib.Omega.{arith}
+use lib.ListN.{length, getD, set, take, drop}
+use lib.Seq.{length-take-le, take-suc, drop-cons, append-snoc, set-at}
+use native.Mathlib.Numerals.{add-one}
+use borrow.Author.Tests.{le-leb, lt-leb}
+use Rattle.maps.specs.Lists.{All, below}
+use Rattle.maps.specs.Label.{Label, earliest}
+use Rattle.maps.specs.Sheet.{Sheet, Kind, input, logic, box, node, size, latency, isLogic}
+use Rattle.maps.specs.Cut.{logicNode}
+use Rattle.maps.specs.Legal.{readyOf, Carried, CarryingCut, Legal, latencyOfAll}
+use Rattle.maps.specs.Least.{at, least, leastLabels}
+use Rattle.maps.specs.Plan.{plan}
+use Rattle.maps.specs.Read.{Header, sheet, refused, parse}
+use Rattle.maps.specs.Outcome.{Outcome, refusal, within, timed, cutless, covered, parsed, outcome, outcomeNumber, outcomePlace, bufferAfter}
+use Rattle.maps.proofs.Member.{All-of, below-out}
+use Rattle.maps.proofs.Over.{getD-over}
+use Rattle.maps.proofs.Enumerate.{clash}
+use Rattle.sheet.specs.Code.{headerMeant}
+use Rattle.sheet.specs.declared.reader.Header as R
+use Rattle.sheet.proofs.After.{Held}
+use Rattle.schedule.specs.Lookup.{labelIn, labelsIn, Soon}
+use Rattle.schedule.specs.Going.{Given, AllKept}
+use Rattle.schedule.specs.Cuts.{Lowest}
+use Rattle.schedule.proofs.Closed.{ready-step}
+use Rattle.schedule.proofs.Exact.{labels-exact}
+use Rattle.planner.specs.Cover.{Labelled, Covered, Rows}
+use Rattle.planner.specs.Bytes.{Small, flatPlan}
+use Rattle.planner.proofs.PlanBytes.{plan-bytes}
+
+-- a bound on every ready step bounds the latency
+latency-most : (S : Sheet) (L : ℕ → Label) (b : ℕ) → ((v : ℕ) → v < size S → readyOf S L v .step ≤ b) → latencyOfAll S L ≤ b
+latency-most S L b h = go (below (size S)) (All-of (λ v. v < size S) (below (size S)) (λ v m. below-out (size S) v m))
+  where
+    go : (vs : List ℕ) → All (λ v. v < size S) vs → foldr (λ v s. max (readyOf S L v .step) s) 0 vs ≤ b
+    go [] w = omega arith
+    go (v ∷ vs) w = omega (arith, h v (w .0), go vs (w .1))
+
+-- a logic node with a legal label has a cut that carries it
+pub legal-carries : (S : Sheet) (L : ℕ → Label) (H : ℕ) → Legal S L H → (v : ℕ) → v < size S → logicNode S v ≡ true → CarryingCut S L v
+legal-carries S L H ok v l i = go (node S v .kind) i (ok .nodes v l .carried)
+  where
+    go : (x : Kind) → isLogic x ≡ true → Carried S L x v → CarryingCut S L v
+    go input e h = clash e
+    go logic e h = h
+    go (box lat) e h = clash e
+
+-- labels that are legal within the horizon
+module _ {S : Sheet} {graph : List ℕ} {limits : R.Header} (steps levels : List ℕ) (k : Labelled S graph limits)
+    (ok : Legal S (at (labelsIn (size S) steps levels)) (S .horizon)) where
+  label-is : (v : ℕ) → v < size S → at (labelsIn (size S) steps levels) v ≡ labelIn steps levels v
+  label-is v l = getD-over (labelIn steps levels) earliest (size S) v l
+
+  ends : (v : ℕ) → v < size S → getD steps v 0 + latency S v ≤ S .horizon
+  ends v l = omega (arith, ap (λ (a : Label). a .step) (label-is v l), ok .nodes v l .ends)
+
+  pub few-nodes : limits .nodes ≤ 256
+  few-nodes = omega (arith, k .nodes, k .well .size .most)
+
+  pub few-leaves : limits .leaves ≤ 6
+  few-leaves = omega (arith, k .leaves, k .well .leaves .most)
+
+  pub soon : (u : ℕ) → u < limits .nodes → Soon graph steps u
+  soon u l = omega (arith, k .nodes, few-nodes, k .tabled .latencies u (omega (arith, few-nodes)), ends u (omega (arith, k .nodes)), k .well .horizon .most)
+
+  pub carrying : (v : ℕ) → v < size S → logicNode S v ≡ true → CarryingCut S (at (labelsIn (size S) steps levels)) v
+  carrying = legal-carries S (at (labelsIn (size S) steps levels)) (S .horizon) ok
+
+  module _ {last : ℕ} (q : last ≡ latencyOfAll S (at (labelsIn (limits .nodes) steps levels))) where
+    e : last ≡ latencyOfAll S (at (labelsIn (size S) steps levels))
+    e = q ∙ ap (λ (n : ℕ). latencyOfAll S (at (labelsIn n steps levels))) (k .nodes)
+
+    last-most : last ≤ 4095
+    last-most =
+        omega (
+          arith,
+          e,
+          k .well .horizon .most,
+          latency-most S (at (labelsIn (size S) steps levels)) (S .horizon)
+              (λ v l. omega (arith, ready-step (latency S v) (at (labelsIn (size S) steps levels) v), ok .nodes v l .ends)),
+        )
+
+    pub small : Small last (limits .nodes) steps levels
+    small =
+        record {
+          nodes = few-nodes;
+          latest = omega (arith, last-most);
+          step = λ v m. omega (arith, ends v (omega (arith, k .nodes)), k .well .horizon .most);
+          level = λ v m.
+              let i : v < size S = omega (arith, k .nodes) in
+              omega (arith, ap (λ (a : Label). a .level) (label-is v i), ok .nodes v i .high, k .well .top .most);
+        }
+
+    -- the bytes written are those of the plan
+    pub planned : (marks cuts p : List ℕ) → Rows (limits .nodes) marks cuts → Covered S (labelsIn (size S) steps levels) marks cuts
+        → p ≡ flatPlan last (limits .nodes) steps levels marks cuts → p ≡ plan S (labelsIn (size S) steps levels)
+    planned marks cuts p rows c f =
+        f ∙ ap (λ (n : ℕ). flatPlan last n steps levels marks cuts) (k .nodes) ∙ plan-bytes S steps levels marks cuts (k .well .size .most) (rw (k .nodes) at rows) c last e
+
+-- the tables and limits that a sheet was read into
+pub labelled : {S : Sheet} {graph differences : List ℕ} {limits : R.Header} → Given S graph differences limits → Labelled S graph limits
+labelled g = record { well = g .well; tabled = g .tabled; leaves = g .leaves; top = g .top; nodes = g .nodes }
+
+pub given : {bytes graph differences : List ℕ} {limits : R.Header} (h : Held bytes graph differences (headerMeant limits)) → Given (h .held) graph differences limits
+given h =
+    record {
+      well = h .well;
+      tabled = h .nodes;
+      listed = h .wishes;
+      leaves = ap (λ (x : Header). x .leaves) (h .headed);
+      top = ap (λ (x : Header). x .top) (h .headed);
+      horizon = ap (λ (x : Header). x .horizon) (h .headed);
+      nodes = ap (λ (x : Header). x .nodes) (h .headed);
+      count = ap (λ (x : Header). x .differences) (h .headed);
+    }
+
+-- the labels found are legal
+pub found-legal : {S : Sheet} {graph differences : List ℕ} {limits : R.Header} (steps levels : List ℕ) → Given S graph differences limits → cutless S ≡ []
+    → leastLabels S ≡ least (labelsIn (limits .nodes) steps levels) → Legal S (at (labelsIn (size S) steps levels)) (S .horizon)
+found-legal {S} {limits = limits} steps levels g cuts e =
+    labels-exact S (g .well) cuts (labelsIn (size S) steps levels) true (e ∙ ap (λ (n : ℕ). least (labelsIn n steps levels)) (g .nodes)) .legal
+
+-- the outcome where labels were found, and p is their plan
+pub found-outcome : {S : Sheet} {graph differences : List ℕ} {limits : R.Header} (steps levels p : List ℕ) → Given S graph differences limits
+    → leastLabels S ≡ least (labelsIn (limits .nodes) steps levels) → p ≡ plan S (labelsIn (size S) steps levels) → (room : ℕ)
+    → timed S room (leastLabels S) ≡ within room p
+found-outcome {S} steps levels p g e q room =
+    ap (timed S room) (e ∙ ap (λ (n : ℕ). least (labelsIn n steps levels)) (g .nodes)) ∙ ap (within room) (sym q)
+
+-- every logic node has a fitting cut, which is kept
+pub all-cut : {S : Sheet} {graph differences kept : List ℕ} {limits : R.Header} {r : ℕ} → Given S graph differences limits
+    → Lowest S graph (limits .nodes) (limits .leaves) kept r → limits .nodes ≤ r → (cutless S ≡ []) × AllKept S kept
+all-cut g h l = h .none (g .well) (g .tabled) (g .nodes) (g .leaves) (omega (arith, h .most))
+
+-- grounds 1 to 5, and a sheet that reads
+pub refused-outcome : (bytes : List ℕ) (k p : ℕ) → parse bytes ≡ refused k p → (room : ℕ) → outcome bytes room ≡ refusal k p
+unfolding outcome
+refused-outcome bytes k p e room = ap (parsed room) e
+
+pub sheet-outcome : (bytes : List ℕ) (S : Sheet) → parse bytes ≡ sheet S → (room : ℕ) → outcome bytes room ≡ covered S room (cutless S)
+unfolding outcome
+sheet-outcome bytes S e room = ap (parsed room) e
+
+-- a turn of the loop that copies
+pub copied-more : (bytes before buffer : List ℕ) (i : ℕ) → i < length bytes → i < length before → buffer ≡ take i bytes ++ drop i before
+    → set buffer i (getD bytes i 0) ≡ take (i + 1) bytes ++ drop (i + 1) before
+copied-more bytes before buffer i l m e =
+    ap (λ (b : List ℕ). set b i (getD bytes i 0)) (e ∙ ap (λ (r : List ℕ). take i bytes ++ r) (drop-cons before i 0 m))
+    ∙ set-at (take i bytes) (getD before i 0) (drop (suc i) before) (getD bytes i 0) i (length-take-le i bytes (omega arith))
+    ∙ sym (append-snoc (take i bytes) (getD bytes i 0) (drop (suc i) before))
+    ∙ ap (λ (r : List ℕ). r ++ drop (suc i) before) (sym (take-suc bytes i 0 l))
+    ∙ ap (λ (k : ℕ). take k bytes ++ drop k before) (sym (add-one i))
+
+-- what the parts of an answer say of an outcome
+abbrev Answered : Outcome → (number place : ℕ) (before after : List ℕ) → Type 0
+Answered o number place before after = (number ≡ outcomeNumber o) × (place ≡ outcomePlace o) × (after ≡ bufferAfter o before)
+
+-- a plan that the buffer has no room for, and one that it has
+module _ (bytes buffer : List ℕ) (n : ℕ) (wide : n ≤ length bytes) where
+  pub no-room : length buffer < n → Answered (within (length buffer) (take n bytes)) 8 n buffer buffer
+  no-room l =
+      let e = length-take-le n bytes wide in
+      rw (lt-leb (length (take n bytes)) (length buffer) (omega arith)) (refl, sym e, refl)
+
+  pub written : (after : List ℕ) → n ≤ length buffer → after ≡ take n bytes ++ drop n buffer → Answered (within (length buffer) (take n bytes)) 0 n buffer after
+  written after l q =
+      let e = length-take-le n bytes wide in
+      rw (le-leb (length (take n bytes)) (length buffer) (omega arith)) (refl, sym e, q ∙ ap (λ (k : ℕ). take n bytes ++ drop k buffer) (sym e))

@@ -1,0 +1,222 @@
+// The planning call.
+ghost use mathlib.Core.Path.{_≡_};
+ghost use mathlib.Core.List.{[], _++_};
+ghost use Prim.Native.Nat.{ℕ, _≤_};
+ghost use lib.ListN.{length, take, drop};
+ghost use Rattle.maps.specs.Sheet.{Sheet, size};
+ghost use Rattle.maps.specs.Legal.{Legal};
+ghost use Rattle.maps.specs.Least.{at, leastLabels};
+ghost use Rattle.maps.specs.Plan.{plan};
+ghost use Rattle.maps.specs.Outcome.{timed, cutless, covered, within, outcome, outcomeNumber, outcomePlace, bufferAfter};
+ghost use Rattle.sheet.specs.Table.{Falling};
+ghost use Rattle.schedule.specs.Lookup.{labelsIn};
+ghost use Rattle.schedule.specs.Going.{Given, AllKept};
+ghost use Rattle.planner.specs.Cover.{Labelled};
+ghost use Rattle.planner.specs.Call.{Made, Short, madeMeant, plannedNumber, plannedPlace};
+use crate::bytes::write_plan;
+use crate::covering::cover;
+use maps::Refusal;
+use schedule::latency;
+use schedule::least_labels;
+use schedule::lowest_cutless;
+use sheet::Header;
+use sheet::Reading;
+use sheet::read_sheet;
+
+// A plan of so many bytes, or why there is none.
+pub enum Draft {
+    Plan(usize),
+    Refused(Refusal),
+}
+
+// What planning answers: the length of what was written, or the refusal.
+pub enum Planned {
+    Written(usize),
+    Refused(Refusal),
+}
+
+// Writes the plan of legal labels; its length.
+pub fn plan_labels(
+    graph: &[u32; 3072],
+    limits: Header,
+    steps: &[u32; 256],
+    levels: &[u32; 256],
+    bytes: &mut [u8; 8192],
+) -> usize
+    requires { ⌜ Falling (now graph) ⌝ }
+    requires { ⌜ ((S : Sheet) × Labelled S (now graph) limits × Legal S (at (labelsIn (size S) (now steps) (now levels))) (S .horizon)) ⌝ }
+    ensures { λ r. ⌜ ((S : Sheet) → Labelled S (now (graph .entry)) limits → Legal S (at (labelsIn (size S) (now (steps .entry)) (now (levels .entry)))) (S .horizon)
+        → take r (now (bytes .exit)) ≡ plan S (labelsIn (size S) (now (steps .entry)) (now (levels .entry)))) ⌝ }
+    ensures { λ r. ⌜ r ≤ 8192 ⌝ }
+{
+    let mut used = [0u8; 256];
+    let mut cuts = [0u32; 2048];
+    let last = latency(graph, steps, limits.nodes);
+    cover(graph, limits, steps, levels, &mut used, &mut cuts);
+    write_plan(last, limits.nodes, steps, levels, &used, &cuts, bytes)
+}
+
+// Plans the sheet in the tables, where `kept` has a fitting cut of each logic node.
+pub fn plan_kept(
+    graph: &[u32; 3072],
+    differences: &[u32; 4096],
+    limits: Header,
+    kept: &mut [u32; 2048],
+    code: &mut [u8; 256],
+    seen: &mut [u8; 512],
+    above: &mut [u32; 256],
+    cut: &mut [u32; 8],
+    bytes: &mut [u8; 8192],
+) -> Draft
+    requires { ⌜ Falling (now graph) ⌝ }
+    requires { ⌜ ((S : Sheet) × Given S (now graph) (now differences) limits × AllKept S (now kept) × (cutless S ≡ [])) ⌝ }
+    ensures { λ r. ⌜ ((S : Sheet) → Given S (now (graph .entry)) (now (differences .entry)) limits → AllKept S (now (kept .entry)) → cutless S ≡ []
+        → (room : ℕ) → timed S room (leastLabels S) ≡ madeMeant (now (bytes .exit)) r room) ⌝ }
+    ensures { λ r. ⌜ Short r ⌝ }
+{
+    let mut steps = [0u32; 256];
+    let mut levels = [0u32; 256];
+    if !least_labels(
+        graph,
+        differences,
+        limits,
+        kept,
+        &mut steps,
+        &mut levels,
+        code,
+        seen,
+        above,
+        cut,
+    ) {
+        return Draft::Refused(Refusal::Late(0));
+    }
+    let length = plan_labels(graph, limits, &steps, &levels, bytes);
+    Draft::Plan(length)
+}
+
+// Plans the sheet in the tables.
+pub fn plan_tables(
+    graph: &[u32; 3072],
+    differences: &[u32; 4096],
+    limits: Header,
+    bytes: &mut [u8; 8192],
+) -> Draft
+    requires { ⌜ Falling (now graph) ⌝ }
+    requires { ⌜ ((S : Sheet) × Given S (now graph) (now differences) limits) ⌝ }
+    ensures { λ r. ⌜ ((S : Sheet) → Given S (now (graph .entry)) (now (differences .entry)) limits
+        → (room : ℕ) → covered S room (cutless S) ≡ madeMeant (now (bytes .exit)) r room) ⌝ }
+    ensures { λ r. ⌜ Short r ⌝ }
+{
+    let mut kept = [0u32; 2048];
+    let mut code = [0u8; 256];
+    let mut seen = [0u8; 512];
+    let mut above = [0u32; 256];
+    let mut cut = [0u32; 8];
+    let lowest = lowest_cutless(
+        graph,
+        &mut kept,
+        &mut code,
+        &mut seen,
+        &mut above,
+        &mut cut,
+        limits.nodes,
+        limits.leaves,
+    );
+    if lowest < limits.nodes {
+        return Draft::Refused(Refusal::Cutless(lowest as usize));
+    }
+    plan_kept(
+        graph,
+        differences,
+        limits,
+        &mut kept,
+        &mut code,
+        &mut seen,
+        &mut above,
+        &mut cut,
+        bytes,
+    )
+}
+
+// Makes the plan of a sheet, whatever the room.
+pub fn make_plan(sheet: &[u8], bytes: &mut [u8; 8192]) -> Draft
+    ensures { λ r. ⌜ Made (now (sheet .entry)) (now (bytes .exit)) r ⌝ }
+    ensures { λ r. ⌜ Short r ⌝ }
+{
+    let mut graph = [0u32; 3072];
+    let mut differences = [0u32; 4096];
+    let reading = read_sheet(sheet, &mut graph, &mut differences);
+    match reading {
+        Reading::Refused(why) => Draft::Refused(why),
+        Reading::Sheet(limits) => plan_tables(&graph, &differences, limits, bytes),
+    }
+}
+
+// Copies the first n bytes into the buffer.
+pub fn copy(bytes: &[u8], buffer: &mut [u8], n: usize)
+    requires { ⌜ (n ≤ length (now bytes)) × (n ≤ length (now buffer)) ⌝ }
+    ensures { λ _. ⌜ now (buffer .exit) ≡ take n (now (bytes .entry)) ++ drop n (now (buffer .entry)) ⌝ }
+{
+    let mut i: usize = 0;
+    while i < n {
+        buffer[i] = bytes[i];
+        i += 1;
+    }
+}
+
+// Hands over a plan of n bytes where the buffer has room.
+pub fn hand_over(bytes: &[u8], buffer: &mut [u8], n: usize) -> Planned
+    requires { ⌜ n ≤ length (now bytes) ⌝ }
+    ensures { λ r. ⌜ (plannedNumber r ≡ outcomeNumber (within (length (now (buffer .entry))) (take n (now (bytes .entry)))))
+        × (plannedPlace r ≡ outcomePlace (within (length (now (buffer .entry))) (take n (now (bytes .entry)))))
+        × (now (buffer .exit) ≡ bufferAfter (within (length (now (buffer .entry))) (take n (now (bytes .entry)))) (now (buffer .entry))) ⌝ }
+{
+    if buffer.len() < n {
+        return Planned::Refused(Refusal::Room(n));
+    }
+    copy(bytes, buffer, n);
+    Planned::Written(n)
+}
+
+// Plans a sheet into a buffer: number, place and every byte of the buffer are those of the defined outcome.
+pub fn plan(sheet: &[u8], buffer: &mut [u8]) -> Planned
+    ensures { λ r. ⌜ (plannedNumber r ≡ outcomeNumber (outcome (now (sheet .entry)) (length (now (buffer .entry)))))
+        × (plannedPlace r ≡ outcomePlace (outcome (now (sheet .entry)) (length (now (buffer .entry)))))
+        × (now (buffer .exit) ≡ bufferAfter (outcome (now (sheet .entry)) (length (now (buffer .entry)))) (now (buffer .entry))) ⌝ }
+{
+    let mut bytes = [0u8; 8192];
+    let draft = make_plan(sheet, &mut bytes);
+    match draft {
+        Draft::Refused(why) => Planned::Refused(why),
+        Draft::Plan(n) => {
+            let whole = &bytes;
+            hand_over(whole, buffer, n)
+        }
+    }
+}
+
+// Number and place, for C.
+#[repr(C)]
+pub struct Answer {
+    pub number: u64,
+    pub place: u64,
+}
+
+#[no_mangle]
+pub extern "C" fn maps_plan(sheet: &[u8], buffer: &mut [u8]) -> Answer
+    ensures { λ r. ⌜ (r .number ≡ outcomeNumber (outcome (now (sheet .entry)) (length (now (buffer .entry)))))
+        × (r .place ≡ outcomePlace (outcome (now (sheet .entry)) (length (now (buffer .entry)))))
+        × (now (buffer .exit) ≡ bufferAfter (outcome (now (sheet .entry)) (length (now (buffer .entry)))) (now (buffer .entry))) ⌝ }
+{
+    let answer = plan(sheet, buffer);
+    match answer {
+        Planned::Written(n) => Answer {
+            number: 0,
+            place: n as u64,
+        },
+        Planned::Refused(why) => Answer {
+            number: why.number() as u64,
+            place: why.place() as u64,
+        },
+    }
+}

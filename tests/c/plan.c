@@ -1,0 +1,163 @@
+/* A caller in C: the hall sheet of document 01 byte for byte, every number from 0 to 8 with its place, exact and short buffers, and known
+ * bytes round the buffer. From the folder that holds include/, tests/ and target/:
+ *
+ *   gcc -std=c11 -Wall -Wextra -Wpedantic -Werror -Wconversion -Wshadow -Iinclude tests/c/plan.c -Ltarget/staticlib -lplanner -o target/plan_c
+ */
+#include "maps.h"
+
+#include <stdio.h>
+#include <string.h>
+
+/* The width of the strips of known bytes before and behind the buffer. */
+#define STRIP 16
+
+/* The greatest buffer that is lent here. */
+#define ROOM 64
+
+static const uint8_t HALL[44] = {
+    0x03, 0x02, 0x04, 0x06, 0x01,
+    0x00, 0x00, 0x00, 0x00, 0x00,
+    0x00, 0x00, 0x00, 0x00, 0x00,
+    0x00, 0x00, 0x00, 0x00, 0x00,
+    0x01, 0x00, 0x01, 0x00, 0x02, 0x00, 0x01,
+    0x01, 0x00, 0x01, 0x00, 0x02, 0x03, 0x02,
+    0x01, 0x01, 0x01, 0x00, 0x02, 0x04, 0x03,
+    0x00, 0x05, 0x02,
+};
+
+static const uint8_t HALL_PLAN[29] = {
+    0x01,
+    0x00, 0x00, 0x01, 0x00,
+    0x00, 0x00, 0x01, 0x00,
+    0x00, 0x00, 0x01, 0x00,
+    0x00, 0x01, 0x01, 0x02, 0x00, 0x01,
+    0x00, 0x01, 0x00, 0x00,
+    0x01, 0x01, 0x01, 0x02, 0x02, 0x03,
+};
+
+static unsigned passed, failed;
+
+/* Counts one check. */
+static void check(int holds, const char *name) {
+    if (holds) {
+        passed++;
+    } else {
+        failed++;
+        printf("FAILED: %s\n", name);
+    }
+}
+
+/* The byte that stands at a place before the call. */
+static uint8_t known(size_t at) { return (uint8_t)(0xa5u ^ (37u * at & 0xffu)); }
+
+/* Plans `sheet` into `room` bytes between two strips. The number and place are those given; on number 0 the buffer begins with `plan`; all
+ * other bytes keep their values. */
+static void expect(const char *name, const uint8_t *sheet, size_t length, size_t room, uint64_t number, uint64_t place, const uint8_t *plan) {
+    uint8_t bytes[STRIP + ROOM + STRIP];
+    for (size_t i = 0; i < sizeof bytes; i++) {
+        bytes[i] = known(i);
+    }
+    struct maps_answer answer = maps_plan(sheet, length, bytes + STRIP, room);
+    size_t written = number == MAPS_ACCEPTED ? (size_t)place : 0;
+    int kept = 1;
+    for (size_t i = 0; i < sizeof bytes; i++) {
+        kept = kept && ((i >= STRIP && i < STRIP + written) || bytes[i] == known(i));
+    }
+    int holds = answer.number == number && answer.place == place;
+    check(holds, name);
+    if (!holds) {
+        printf("  %llu %llu (%s)\n", (unsigned long long)answer.number, (unsigned long long)answer.place, maps_text(answer.number));
+    }
+    check(kept, name);
+    check(maps_accepted(answer) == (number == 0), name);
+    if (plan != NULL) {
+        check(memcmp(bytes + STRIP, plan, written) == 0, name);
+    }
+}
+
+/* The hall sheet with one byte changed. */
+static void changed(const char *name, size_t at, uint8_t value, uint64_t number, uint64_t place) {
+    uint8_t sheet[sizeof HALL];
+    memcpy(sheet, HALL, sizeof HALL);
+    sheet[at] = value;
+    expect(name, sheet, sizeof sheet, ROOM, number, place, NULL);
+    expect(name, sheet, sizeof sheet, 0, number, place, NULL);
+}
+
+/* The hall sheet and its buffers. */
+static void hall(void) {
+    size_t length = sizeof HALL_PLAN;
+    expect("hall, ample buffer", HALL, sizeof HALL, ROOM, MAPS_ACCEPTED, length, HALL_PLAN);
+    expect("hall, exact buffer", HALL, sizeof HALL, length, MAPS_ACCEPTED, length, HALL_PLAN);
+    expect("hall, one byte more", HALL, sizeof HALL, length + 1, MAPS_ACCEPTED, length, HALL_PLAN);
+    for (size_t room = 0; room < length; room++) {
+        expect("8: hall, short buffer", HALL, sizeof HALL, room, MAPS_BUFFER_SHORT, length, NULL);
+    }
+    uint8_t one_step[sizeof HALL];
+    memcpy(one_step, HALL, sizeof HALL);
+    one_step[2] = 1;
+    expect("hall with H = 1", one_step, sizeof one_step, ROOM, MAPS_ACCEPTED, length, HALL_PLAN);
+}
+
+/* Every ground with its place. */
+static void grounds(void) {
+    for (size_t length = 0; length < sizeof HALL; length++) {
+        expect("1: a part of hall", HALL, length, ROOM, MAPS_SHEET_ENDS, length, NULL);
+        expect("1: a part of hall, no buffer", HALL, length, 0, MAPS_SHEET_ENDS, length, NULL);
+    }
+    static const uint8_t half[] = {0x80};
+    expect("1: 80 at the end", half, sizeof half, ROOM, MAPS_SHEET_ENDS, 1, NULL);
+    static const uint8_t zero_second[] = {0x80, 0x00};
+    expect("2: 80 00", zero_second, sizeof zero_second, ROOM, MAPS_SECOND_BYTE, 0, NULL);
+    static const uint8_t great_second[] = {0x80, 0x80};
+    expect("2: 80 80", great_second, sizeof great_second, ROOM, MAPS_SECOND_BYTE, 0, NULL);
+    static const uint8_t greatest_number[] = {0xff, 0x7f};
+    expect("3: ff 7f as K", greatest_number, sizeof greatest_number, ROOM, MAPS_VALUE, 0, NULL);
+    static const uint8_t late_spelling[] = {0x03, 0x02, 0x84, 0x00};
+    expect("2: the third number", late_spelling, sizeof late_spelling, ROOM, MAPS_SECOND_BYTE, 2, NULL);
+    changed("3: K = 7", 0, 7, MAPS_VALUE, 0);
+    changed("3: T = 0", 1, 0, MAPS_VALUE, 1);
+    changed("3: kind 3", 5, 3, MAPS_VALUE, 5);
+    changed("3: u = 6", 41, 6, MAPS_VALUE, 41);
+    changed("3: v = 6", 42, 6, MAPS_VALUE, 42);
+    changed("4: node 3 reads itself", 26, 3, MAPS_OPERAND, 26);
+    changed("4: node 5 reads 127", 40, 127, MAPS_OPERAND, 40);
+    uint8_t longer[sizeof HALL + 2] = {0};
+    memcpy(longer, HALL, sizeof HALL);
+    expect("5: one byte more", longer, sizeof HALL + 1, ROOM, MAPS_BYTES_FOLLOW, sizeof HALL, NULL);
+    expect("5: two bytes more", longer, sizeof HALL + 2, 0, MAPS_BYTES_FOLLOW, sizeof HALL, NULL);
+    static const uint8_t wide[] = {2, 1, 0, 4, 0, 0, 0, 0, 0, 0, 0, 0, 0, 0, 0, 0, 0, 0, 0, 0, 1, 1, 1, 0, 3, 0, 1, 2};
+    expect("6: node 3 reads three inputs, K = 2", wide, sizeof wide, ROOM, MAPS_NO_CUT, 3, NULL);
+    expect("6 comes before 8", wide, sizeof wide, 0, MAPS_NO_CUT, 3, NULL);
+    changed("7: hall with H = 0", 2, 0, MAPS_LATE, 0);
+}
+
+/* Sheets and buffers of length 0. */
+static void nothing(void) {
+    static const uint8_t none[1] = {0};
+    expect("no sheet", none, 0, ROOM, MAPS_SHEET_ENDS, 0, NULL);
+    expect("no sheet, no buffer", none, 0, 0, MAPS_SHEET_ENDS, 0, NULL);
+    static const uint8_t one_input[] = {2, 1, 0, 1, 0, 0, 0, 0, 0, 0};
+    static const uint8_t one_input_plan[] = {0, 0, 0, 0, 0};
+    expect("one input", one_input, sizeof one_input, 5, MAPS_ACCEPTED, 5, one_input_plan);
+    expect("one input, no buffer", one_input, sizeof one_input, 0, MAPS_BUFFER_SHORT, 5, NULL);
+}
+
+/* The words for the numbers are there and differ. */
+static void words(void) {
+    for (uint64_t a = 0; a <= 9; a++) {
+        for (uint64_t b = 0; b < a; b++) {
+            check(strcmp(maps_text(a), maps_text(b)) != 0, "words");
+        }
+    }
+    check(strcmp(maps_text(MAPS_LATE), "no legal labelling within H") == 0, "words of 7");
+}
+
+int main(void) {
+    hall();
+    grounds();
+    nothing();
+    words();
+    printf("%u passed, %u failed\n", passed, failed);
+    return failed != 0;
+}
