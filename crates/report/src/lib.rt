@@ -1,4 +1,6 @@
 // The listing of a sheet's plan, or the line of its refusal, on standard output.
+ghost use mathlib.Core.Path.{_≡_};
+ghost use Rattle.maps.specs.Outcome.{outcome, outcomeNumber};
 use maps::Refusal;
 use number::Cursor;
 use number::Number;
@@ -93,14 +95,20 @@ fn print_refusal(why: Refusal) {
     io::write_all(1, b"\n");
 }
 
-// Plans a sheet and prints what came of it: the listing, or the line of the refusal.
-pub fn report(sheet: &[u8]) {
+// Plans a sheet and prints what came of it, the listing or the line of the refusal; its number.
+pub fn report(sheet: &[u8]) -> u32
+    ensures { λ r. ⌜ r ≡ outcomeNumber (outcome (now (sheet .entry)) 8192) ⌝ }
+{
     let mut buffer = [0u8; 8192];
     let answer = planner::plan(sheet, &mut buffer);
     match answer {
-        Planned::Refused(why) => print_refusal(why),
+        Planned::Refused(why) => {
+            print_refusal(why);
+            why.number()
+        }
         Planned::Written(n) => {
             print_first(&buffer, n);
+            0
         }
     }
 }
