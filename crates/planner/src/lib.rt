@@ -6,4 +6,3 @@ mod covering;
 pub use call::Planned;
 pub use call::maps_plan;
 pub use call::plan;
-pub use covering::cover;
