@@ -13,7 +13,8 @@
  * Asked of the caller: `sheet` points to sheet_len readable bytes and `plan` to plan_len writable bytes, the two do not overlap, and neither
  * pointer is null, also where its length is 0. A buffer of MAPS_PLAN_MOST bytes is long enough for every plan.
  *
- * The call has no global state and allocates nothing: several threads may call it at the same time. It needs at most MAPS_STACK bytes of stack.
+ * The call has no global state and allocates nothing: several threads may call it at the same time. Give a thread that
+ * calls it MAPS_STACK bytes of stack.
  */
 #ifndef MAPS_H
 #define MAPS_H
@@ -29,8 +30,8 @@ extern "C" {
  * of 6 leaves). */
 #define MAPS_PLAN_MOST 4354
 
-/* Bytes of stack that suffice for every call. The most that was measured is 102,200. The tables take some 85,000 bytes, and the searches go at most
- * eight small frames deep for each of 256 nodes. */
+/* Bytes of stack to give a calling thread: five times the most that was measured, 102,200 over some twenty sheets made for depth. It is a margin and
+ * not a proved bound. */
 #define MAPS_STACK 524288
 
 /* What a call answers. */
