@@ -149,7 +149,9 @@ pub fn between(span: Span) -> u32
 }
 
 // Twice a stride, up to a limit.
-pub fn wider(stride: u32) -> u32 {
+pub fn wider(stride: u32) -> u32
+    ensures { λ r. ⌜ (stride ≤ r) × (r ≤ stride + stride) ⌝ }
+{
     if stride > 32768 {
         return stride;
     }
