@@ -7,11 +7,16 @@ ghost use Rattle.number.specs.Code.{numberMeant};
 use maps::Refusal;
 
 mod ranges;
+mod reader;
 
 pub use ranges::Ranges;
 pub use ranges::Span;
 pub use ranges::header_range;
 pub use ranges::ranges_of;
+pub use reader::Reader;
+pub use reader::next_number;
+pub use reader::read_number;
+pub use reader::reader_at;
 
 // A position in the sheet.
 pub struct Cursor {
@@ -69,7 +74,7 @@ pub fn number_at(sheet: &[u8], c: Cursor) -> Number
 pub fn field(sheet: &[u8], c: Cursor, low: u32, high: u32) -> Number
     ensures { λ r. ⌜ numberMeant r ≡ ranged low high (now (sheet .entry)) (c .at) ⌝ }
 {
-    let read = number_at(sheet, c);
+    let read = read_number(sheet, c);
     let Number::Value { value, next: _ } = read else {
         return read;
     };
@@ -86,7 +91,7 @@ pub fn field(sheet: &[u8], c: Cursor, low: u32, high: u32) -> Number
 pub fn operand_at(sheet: &[u8], c: Cursor, own: u32) -> Number
     ensures { λ r. ⌜ numberMeant r ≡ operand own (now (sheet .entry)) (c .at) ⌝ }
 {
-    let id = number_at(sheet, c);
+    let id = read_number(sheet, c);
     let Number::Value { value, next: _ } = id else {
         return id;
     };

@@ -5,22 +5,22 @@ use Rattle.number.proofs.field.Statement.{statement}
 use Rattle.number.proofs.field.Tie as tie
 
 returns : tie.Need-returns
-returns c = rw (← c .before .before .number-at .ensures, c .enum-told .given .1)
+returns c = rw (← c .before .before .read-number .ensures, c .enum-told .given .1)
 
 returns-2 : tie.Need-returns-2
 returns-2 c =
     let d = c .before .before in
-    rw (← d .before .before .number-at .ensures, d .read .given .1, lt-leb _ _ (c .if1 .taken))
+    rw (← d .before .before .read-number .ensures, d .read .given .1, lt-leb _ _ (c .if1 .taken))
 
 returns-3 : tie.Need-returns-3
 returns-3 c =
     let d = c .before .before .before in
-    rw (← d .before .before .number-at .ensures, d .read .given .1, le-leb _ _ (c .before .if1 .left), lt-leb _ _ (c .if2 .taken))
+    rw (← d .before .before .read-number .ensures, d .read .given .1, le-leb _ _ (c .before .if1 .left), lt-leb _ _ (c .if2 .taken))
 
 returns-4 : tie.Need-returns-4
 returns-4 c =
     let d = c .before .before .before in
-    rw (← d .before .before .number-at .ensures, d .read .given .1, le-leb _ _ (c .before .if1 .left), le-leb _ _ (c .if2 .left))
+    rw (← d .before .before .read-number .ensures, d .read .given .1, le-leb _ _ (c .before .if1 .left), le-leb _ _ (c .if2 .left))
 
 pub field-spec : {M : Type 1} → statement M
 field-spec =
