@@ -1,4 +1,4 @@
-// Reading a sheet into two tables.
+// Reading a sheet into two tables, which a refusal leaves as they were.
 ghost use mathlib.Core.Path.{_≡_};
 ghost use Rattle.maps.specs.Read.{parse};
 ghost use Rattle.sheet.specs.Table.{readAfter, answerNumber, answerPlace};
@@ -23,8 +23,12 @@ pub extern "C" fn maps_read(
         × (now (graph .exit) ≡ readAfter (parse (now (sheet .entry))) (now (graph .entry)) (now (differences .entry)) .graph)
         × (now (differences .exit) ≡ readAfter (parse (now (sheet .entry))) (now (graph .entry)) (now (differences .entry)) .differences) ⌝ }
 {
-    let reading = read_sheet(sheet, graph, differences);
+    let mut nodes = [0u32; 3072];
+    let mut wishes = [0u32; 4096];
+    let reading = read_sheet(sheet, &mut nodes, &mut wishes);
     let Reading::Refused(why) = reading else {
+        *graph = nodes;
+        *differences = wishes;
         return ReadAnswer {
             number: 0,
             place: 0,

@@ -1,14 +1,16 @@
 -- What a caller of the reader learns from its answer.
 use Prim.Native.Nat.{ℕ}
 use mathlib.Core.Path.{_≡_, refl, ap}
-use mathlib.Core.List.{List}
+use mathlib.Core.List.{List, []}
 use native.Mathlib.Omega.{arith}
 use Rattle.maps.specs.Sheet.{Sheet}
 use Rattle.maps.specs.Read.{Header, Parsed, sheet, refused, parse}
 use Rattle.maps.specs.WellFormed.{WellFormed}
 use Rattle.maps.proofs.Parse.{parse-well}
 use Rattle.sheet.specs.Table.{headerOf, header, Tables, tables, readAfter, Tabled, Listed, Falling}
+use Rattle.sheet.specs.Fill.{readInto}
 use Rattle.sheet.specs.Table as Table
+use Rattle.sheet.proofs.Reading.{read-whole, read-refused}
 use Rattle.sheet.proofs.Tables.{tabled, listed, falling}
 
 -- the bytes are a sheet, which the header and the tables hold
@@ -21,11 +23,11 @@ pub record Held (bytes graph differences : List ℕ) (h : Header) : Type 0 where
   pub walks : Falling graph
   pub wishes : Listed held differences
 
-module _ (bytes g d g₀ d₀ : List ℕ) where
-  pub was-read : (h : Header) → tables (header h) g d ≡ readAfter (parse bytes) g₀ d₀ → Held bytes g d h
-  was-read h e = go (parse bytes) refl e
+module _ (bytes g d : List ℕ) where
+  pub was-read : (h : Header) → tables (header h) g d ≡ readInto bytes → Held bytes g d h
+  was-read h e = go (parse bytes) refl (read-whole bytes _ g d e h refl [] [])
     where
-      go : (x : Parsed) → parse bytes ≡ x → tables (header h) g d ≡ readAfter x g₀ d₀ → Held bytes g d h
+      go : (x : Parsed) → parse bytes ≡ x → tables (header h) g d ≡ readAfter x [] [] → Held bytes g d h
       go (sheet S) q f =
           let w = parse-well bytes S q in
           let t : Tabled S g = rw (ap (λ (t : Tables). t .graph) f) (tabled S w) in
@@ -40,9 +42,9 @@ module _ (bytes g d g₀ d₀ : List ℕ) where
           }
       go (refused k p) q f = let z : _≡_ {A = ℕ} 0 1 = cc (ap (λ (t : Tables). t .answer) f) in absurd (omega arith)
 
-  pub was-refused : (k p : ℕ) → tables (Table.refusal k p) g d ≡ readAfter (parse bytes) g₀ d₀ → parse bytes ≡ refused k p
-  was-refused k p e = go (parse bytes) refl e
+  pub was-refused : (k p : ℕ) → tables (Table.refusal k p) g d ≡ readInto bytes → parse bytes ≡ refused k p
+  was-refused k p e = go (parse bytes) refl (read-refused bytes _ g d e k p refl [] [])
     where
-      go : (x : Parsed) → parse bytes ≡ x → tables (Table.refusal k p) g d ≡ readAfter x g₀ d₀ → parse bytes ≡ refused k p
+      go : (x : Parsed) → parse bytes ≡ x → tables (Table.refusal k p) [] [] ≡ readAfter x [] [] → parse bytes ≡ refused k p
       go (sheet S) q f = let z : _≡_ {A = ℕ} 0 1 = cc (ap (λ (t : Tables). t .answer) f) in absurd (omega arith)
       go (refused j r) q f = cc (q, ap (λ (t : Tables). t .answer) f)

@@ -5,14 +5,14 @@ use mathlib.Core.Bool.{Bool, true, false, cond}
 use mathlib.Core.List.{List, [], _∷_, map}
 use native.Mathlib.Omega.{arith}
 use lib.Dec.{ltb}
-use lib.ListN.{length, set, replicate}
+use lib.ListN.{length, set}
 use Rattle.maps.specs.Number.{Got, got, refusal, Reader, andThen}
 use Rattle.maps.specs.Sheet.{Sheet, Node, Difference}
 use Rattle.maps.specs.Read.{operand, eachFrom, times, Head, nodeOf, readHead, readNode, readDifference, Header, readHeader, sheetOf, readSheet, Parsed, sheet, refused, whole, parse}
 use Rattle.maps.proofs.Parse.{counted}
-use Rattle.sheet.specs.Table.{nodeRow, headRow, differenceRow, storeFrom, storeRows, nodePlace, differencePlace, graphOf, differencesOf, headerOf, Answer, header, answerNumber, answerPlace, Tables, tables, readAfter}
+use Rattle.sheet.specs.Table.{nodeRow, headRow, differenceRow, storeFrom, storeRows, nodePlace, differencePlace, noNodes, noDifferences, graphOf, differencesOf, headerOf, Answer, header, answerNumber, answerPlace, Tables, tables, readAfter}
 use Rattle.sheet.specs.Table as Table
-use Rattle.sheet.specs.Fill.{Filled, filled, gotOn, fillOn, repeatInto, operandInto, operandsInto, nodeInto, nodesInto, differenceInto, differencesInto, tablesInto}
+use Rattle.sheet.specs.Fill.{Filled, filled, gotOn, fillOn, repeatInto, operandInto, operandsInto, nodeInto, nodesInto, differenceInto, differencesInto, tablesInto, readInto}
 
 -- a table is filled as a reader reads: both end alike, and where they go on the table is what `put` makes of the value
 data Fills {A : Type 0} (put : A → List ℕ) : Got A → Filled → Type 0 where
@@ -105,12 +105,6 @@ data Tied : Parsed → Tables → Type 0 where
   none : {k p : ℕ} {g d : List ℕ} → Tied (refused k p) (tables (Table.refusal k p) g d)
 
 module _ (s : List ℕ) where
-  abbrev noNodes : List ℕ
-  noNodes = replicate 3072 0
-
-  abbrev noDifferences : List ℕ
-  noDifferences = replicate 4096 0
-
   -- ground 5, or the sheet
   ended : (h : Header) (vs : List Node) (ds : List Difference) (last : ℕ) → length vs ≡ h .nodes → length ds ≡ h .differences
       → Tied (whole s (got (sheetOf h vs ds) last))
@@ -150,7 +144,7 @@ module _ (s : List ℕ) where
       after-nodes h vs next (counted _ _ _ s at vs next e) _ _ refl (differences-filled s (h .nodes) (h .differences) next noDifferences)
   after-header h at (refusal k p) t e stopped = none
 
-  tied : Tied (parse s) (tablesInto s noNodes noDifferences)
+  tied : Tied (parse s) (readInto s)
   unfolding parse readSheet tablesInto gotOn
   tied = go (readHeader s 0)
     where
@@ -167,18 +161,18 @@ module _ (s : List ℕ) where
       go (refusal k p) = none
 
   -- the answer was a header: the tables are the sheet's
-  pub read-whole : (a : Answer) (g d : List ℕ) → tables a g d ≡ tablesInto s noNodes noDifferences → (h : Header) → a ≡ header h
+  pub read-whole : (a : Answer) (g d : List ℕ) → tables a g d ≡ readInto s → (h : Header) → a ≡ header h
       → (g₀ d₀ : List ℕ) → tables a g d ≡ readAfter (parse s) g₀ d₀
-  read-whole a g d e h q g₀ d₀ = go (parse s) (tablesInto s noNodes noDifferences) tied e
+  read-whole a g d e h q g₀ d₀ = go (parse s) (readInto s) tied e
     where
       go : (x : Parsed) (t : Tables) → Tied x t → tables a g d ≡ t → tables a g d ≡ readAfter x g₀ d₀
       go (sheet S) t read f = f
       go (refused k p) t none f = let z : _≡_ {A = ℕ} 0 1 = cc (ap (λ (t : Tables). t .answer) f) in absurd (omega arith)
 
   -- the answer was a refusal: it is the definition's
-  pub read-refused : (a : Answer) (g d : List ℕ) → tables a g d ≡ tablesInto s noNodes noDifferences → (k p : ℕ) → a ≡ Table.refusal k p
+  pub read-refused : (a : Answer) (g d : List ℕ) → tables a g d ≡ readInto s → (k p : ℕ) → a ≡ Table.refusal k p
       → (g₀ d₀ : List ℕ) → tables a g₀ d₀ ≡ readAfter (parse s) g₀ d₀
-  read-refused a g d e k p q g₀ d₀ = go (parse s) (tablesInto s noNodes noDifferences) tied e
+  read-refused a g d e k p q g₀ d₀ = go (parse s) (readInto s) tied e
     where
       go : (x : Parsed) (t : Tables) → Tied x t → tables a g d ≡ t → tables a g₀ d₀ ≡ readAfter x g₀ d₀
       go (sheet S) t read f = let z : _≡_ {A = ℕ} 0 1 = cc (ap (λ (t : Tables). t .answer) f) in absurd (omega arith)

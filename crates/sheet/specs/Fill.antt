@@ -6,7 +6,7 @@ use lib.Dec.{ltb}
 use lib.ListN.{length}
 use Rattle.maps.specs.Number.{Got, got, refusal}
 use Rattle.maps.specs.Read.{operand, readHead, readDifference, readHeader}
-use Rattle.sheet.specs.Table.{storeFrom, headRow, differenceRow, nodePlace, differencePlace, header, Tables, tables}
+use Rattle.sheet.specs.Table.{storeFrom, headRow, differenceRow, nodePlace, differencePlace, noNodes, noDifferences, header, Tables, tables}
 use Rattle.sheet.specs.Table as Table
 
 pub record Filled : Type 0 where
@@ -68,3 +68,7 @@ module _ (s : List ℕ) where
       let ds = differencesInto (h .nodes) (h .differences) next d in
       gotOn (ds .end) (λ k p. tables (Table.refusal k p) (ns .table) (ds .table)) (λ w last.
       tables (cond (ltb last (length s)) (Table.refusal 5 last) (header h)) (ns .table) (ds .table))))
+
+  -- the same into tables without a row
+  abbrev pub readInto : Tables
+  readInto = tablesInto noNodes noDifferences

@@ -45,14 +45,21 @@ nodePlace v = v * nodeStride
 abbrev pub differencePlace : ℕ → ℕ
 differencePlace i = i * differenceStride
 
+-- tables without a row
+abbrev pub noNodes : List ℕ
+noNodes = replicate 3072 0
+
+abbrev pub noDifferences : List ℕ
+noDifferences = replicate 4096 0
+
 -- the table of a sheet's nodes, and that of its differences
 unfoldable pub graphOf : Sheet → List ℕ
 unfolding storeRows
-graphOf S = storeRows nodePlace (replicate 3072 0) 0 (map nodeRow (S .nodes))
+graphOf S = storeRows nodePlace noNodes 0 (map nodeRow (S .nodes))
 
 unfoldable pub differencesOf : Sheet → List ℕ
 unfolding storeRows
-differencesOf S = storeRows differencePlace (replicate 4096 0) 0 (map differenceRow (S .differences))
+differencesOf S = storeRows differencePlace noDifferences 0 (map differenceRow (S .differences))
 
 -- what stands in the table of nodes at node v
 module _ (g : List ℕ) (v : ℕ) where

@@ -1,9 +1,9 @@
 // Reads a whole sheet: the header, the nodes, the differences, and nothing after them.
 ghost use mathlib.Core.Path.{_≡_};
-ghost use Rattle.maps.specs.Read.{readHeader, parse};
+ghost use Rattle.maps.specs.Read.{readHeader};
 ghost use Rattle.sheet.specs.Code.{headerRead, headerRefusal, progressRefusal, answerMeant};
-ghost use Rattle.sheet.specs.Table.{tables, readAfter};
-ghost use Rattle.sheet.specs.Fill.{tablesInto};
+ghost use Rattle.sheet.specs.Table.{tables};
+ghost use Rattle.sheet.specs.Fill.{tablesInto, readInto};
 use crate::fill::Progress;
 use crate::fill::read_differences;
 use crate::fill::read_nodes;
@@ -138,17 +138,11 @@ pub fn fill_tables(sheet: &[u8], graph: &mut [u32; 3072], differences: &mut [u32
     Reading::Sheet(header)
 }
 
-// Reads a sheet: its header, and its nodes and differences in the two tables. A refusal leaves both as they were.
+// Reads a sheet: its header, and its nodes and differences in the two tables, which are cleared first. A refusal leaves there what was read before it.
 pub fn read_sheet(sheet: &[u8], graph: &mut [u32; 3072], differences: &mut [u32; 4096]) -> Reading
-    ensures { λ r. ⌜ tables (answerMeant r) (now (graph .exit)) (now (differences .exit)) ≡ readAfter (parse (now (sheet .entry))) (now (graph .entry)) (now (differences .entry)) ⌝ }
+    ensures { λ r. ⌜ tables (answerMeant r) (now (graph .exit)) (now (differences .exit)) ≡ readInto (now (sheet .entry)) ⌝ }
 {
-    let mut nodes = [0u32; 3072];
-    let mut wishes = [0u32; 4096];
-    let reading = fill_tables(sheet, &mut nodes, &mut wishes);
-    let Reading::Sheet(_) = reading else {
-        return reading;
-    };
-    *graph = nodes;
-    *differences = wishes;
-    reading
+    *graph = [0; 3072];
+    *differences = [0; 4096];
+    fill_tables(sheet, graph, differences)
 }

@@ -9,17 +9,17 @@ use Rattle.planner.proofs.call.make_plan.Tie as tie
 plan-tables-requires : tie.Need-plan-tables-requires
 plan-tables-requires c κs =
     let r = c .before .before .before .before in
-    let held = was-read _ _ _ _ _ _ (rw (r .reading2 .given .1) at (r .before .before .read-sheet .ensures)) in
+    let held = was-read _ _ _ _ (rw (r .reading2 .given .1) at (r .before .before .read-sheet .ensures)) in
     (held .walks, (held .held, given held))
 
 returns : tie.Need-returns
 returns c =
-    (refused-outcome _ _ _ (was-refused _ _ _ _ _ _ _ (rw (c .before .reading .given .1) at (c .before .before .before .read-sheet .ensures))), tt)
+    (refused-outcome _ _ _ (was-refused _ _ _ _ _ (rw (c .before .reading .given .1) at (c .before .before .before .read-sheet .ensures))), tt)
 
 returns-2 : tie.Need-returns-2
 returns-2 c =
     let r = c .before .before .before .before .before in
-    let held = was-read _ _ _ _ _ _ (rw (r .reading2 .given .1) at (r .before .before .read-sheet .ensures)) in
+    let held = was-read _ _ _ _ (rw (r .reading2 .given .1) at (r .before .before .read-sheet .ensures)) in
     let w = c .plan-tables .ensures in
     (λ room. sheet-outcome _ _ (held .reads) room ∙ w .0 (held .held) (given held) room, w .1)
 
