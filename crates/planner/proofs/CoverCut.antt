@@ -22,12 +22,12 @@ use Rattle.maps.proofs.Chosen.{chosen-is, chosen-same}
 use Rattle.sheet.specs.Table.{delayIn}
 use Rattle.sheet.specs.declared.reader.Header as R
 use Rattle.cut.specs.Question.{AllowedCut, Fewest, Best}
-use Rattle.schedule.specs.Settle.{arrives}
-use Rattle.schedule.specs.Lookup.{labelIn, labelsIn, arrivalIn}
-use Rattle.schedule.specs.Going.{Placed}
-use Rattle.schedule.specs.Cuts.{Stored}
-use Rattle.schedule.proofs.Forced.{leaf-read, leaf-below}
-use Rattle.schedule.proofs.LevelCodes.{inTime, arrives-in}
+use Rattle.relax.specs.Settle.{arrives}
+use Rattle.bound.specs.Lookup.{labelIn, labelsIn, arrivalIn}
+use Rattle.level.specs.Carry.{Placed}
+use Rattle.level.specs.Cuts.{Stored}
+use Rattle.relax.proofs.Forced.{leaf-read, leaf-below}
+use Rattle.level.proofs.LevelCodes.{inTime, arrives-in}
 use Rattle.planner.specs.Cover.{countOf, rowOf}
 use Rattle.planner.specs.Covering.{SoundCount, Written, Laid, Picked}
 use Rattle.planner.proofs.CoverMarks.{part-is, part-all}

@@ -13,7 +13,7 @@ use lib.Seq.{length-take-le, take-suc, getD-take, getD-drop, getD-set-same, getD
 use borrow.Author.Tests.{eqb-true, eqb-false, ltb-true, ltb-false}
 use Rattle.maps.specs.Lists.{All, mem}
 use Rattle.maps.proofs.Member.{All-ids, All-get}
-use Rattle.schedule.specs.Lookup.{Beside}
+use Rattle.bound.specs.Lookup.{Beside}
 use Rattle.planner.specs.Cover.{Rows, countOf, rowOf}
 use Rattle.planner.specs.Covering.{part, MarkedAll, Written}
 

@@ -22,7 +22,7 @@ use Rattle.maps.proofs.Planned.{operands-below}
 use Rattle.sheet.specs.Table.{kindIn, countIn, Tabled}
 use Rattle.sheet.proofs.Tables.{falling}
 use Rattle.sheet.specs.declared.reader.Header as R
-use Rattle.schedule.specs.Lookup.{labelsIn}
+use Rattle.bound.specs.Lookup.{labelsIn}
 use Rattle.planner.specs.Cover.{Covered, Rows, countOf, rowOf}
 use Rattle.planner.specs.Covering.{usedIn, part, MarkedAll, Written, Laid, Going}
 use Rattle.planner.proofs.CoverMarks.{mem-append, part-is, marked-append, marked-own, count-beside, row-beside}

@@ -23,10 +23,10 @@ use Rattle.maps.proofs.Enumerate.{clash}
 use Rattle.sheet.specs.Code.{headerMeant}
 use Rattle.sheet.specs.declared.reader.Header as R
 use Rattle.sheet.proofs.After.{Held}
-use Rattle.schedule.specs.Lookup.{labelIn, labelsIn, Soon}
-use Rattle.schedule.specs.Going.{Given, AllKept}
-use Rattle.schedule.specs.Cuts.{Lowest}
-use Rattle.schedule.proofs.Closed.{ready-step}
+use Rattle.bound.specs.Lookup.{labelIn, labelsIn, Soon}
+use Rattle.bound.specs.Going.{Given, AllKept}
+use Rattle.level.specs.Cuts.{Lowest}
+use Rattle.relax.proofs.Closed.{ready-step}
 use Rattle.schedule.proofs.Exact.{labels-exact}
 use Rattle.planner.specs.Cover.{Labelled, Covered, Rows}
 use Rattle.planner.specs.Bytes.{Small, flatPlan}

@@ -13,7 +13,7 @@ use Rattle.maps.specs.Cover.{used}
 use Rattle.maps.specs.Number.{encoded}
 use Rattle.maps.specs.Plan.{row, plan}
 use Rattle.maps.proofs.Over.{getD-over}
-use Rattle.schedule.specs.Lookup.{labelIn, labelsIn}
+use Rattle.bound.specs.Lookup.{labelIn, labelsIn}
 use Rattle.planner.specs.Cover.{Covered, Rows}
 use Rattle.planner.specs.Bytes.{flatRow, flatPlan}
 use Rattle.planner.proofs.Putting.{count-row}

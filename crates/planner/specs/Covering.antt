@@ -15,7 +15,7 @@ use Rattle.maps.specs.Cover.{usedBelow, used, chosenCut}
 use Rattle.maps.specs.Plan.{leavesOf}
 use Rattle.sheet.specs.Table.{kindIn, markIn}
 use Rattle.sheet.specs.declared.reader.Header as R
-use Rattle.schedule.specs.Lookup.{labelsIn, Beside}
+use Rattle.bound.specs.Lookup.{labelsIn, Beside}
 use Rattle.planner.specs.Cover.{Labelled, countOf, rowOf}
 
 -- v is an output, a box, or marked

@@ -15,14 +15,14 @@ use Rattle.maps.specs.Legal.{Legal}
 use Rattle.maps.proofs.Order.{≼-refl, ≼-trans}
 use Rattle.maps.proofs.Over.{last-or, all-below, all-fails}
 use Rattle.maps.proofs.Fix.{label-path, is-least, is-late}
-use Rattle.schedule.specs.Guard.{DiffsInto, Raised}
-use Rattle.schedule.specs.Lookup.{labelIn}
-use Rattle.schedule.specs.Settle.{Passing, begin, onward, Pass}
-use Rattle.schedule.specs.Hold.{Holding}
-use Rattle.schedule.proofs.Closed.{Closed, inside}
-use Rattle.schedule.proofs.Guard.{guarded-late}
-use Rattle.schedule.proofs.Held.{Climb, Grown, held-set, none-floats}
-use Rattle.schedule.proofs.Passes.{pass-again, pass-on, pass-grows, pass-least, pass-floats, Moved, moves-bound}
+use Rattle.relax.specs.Guard.{DiffsInto, Raised}
+use Rattle.bound.specs.Lookup.{labelIn}
+use Rattle.relax.specs.Settle.{Passing, begin, onward, Pass}
+use Rattle.relax.specs.Hold.{Holding}
+use Rattle.relax.proofs.Closed.{Closed, inside}
+use Rattle.relax.proofs.Guard.{guarded-late}
+use Rattle.relax.proofs.Held.{Climb, Grown, held-set, none-floats}
+use Rattle.relax.proofs.Passes.{pass-again, pass-on, pass-grows, pass-least, pass-floats, Moved, moves-bound}
 
 module _ (S : Sheet) (closed : Closed S) where
   -- no labelling is legal, under whatever horizon

@@ -20,19 +20,19 @@ use Rattle.maps.proofs.Fix.{key, label-path, is-least, is-late}
 use Rattle.maps.proofs.Planned.{delays, operands-below, least-right}
 use Rattle.sheet.specs.Table.{latencyIn, operandIn, noDifference, differenceAt, Tabled}
 use Rattle.sheet.specs.declared.reader.Header as R
-use Rattle.schedule.specs.Guard.{Kept}
-use Rattle.schedule.specs.Settle.{Pass, Passing}
-use Rattle.schedule.specs.Hold.{Holding}
-use Rattle.schedule.specs.Lookup.{Ends, labelIn, labelsIn, Linked}
-use Rattle.schedule.specs.Level.{HoldsAt}
-use Rattle.schedule.specs.Going.{Given, AllKept, Going}
+use Rattle.relax.specs.Guard.{Kept}
+use Rattle.relax.specs.Settle.{Pass, Passing}
+use Rattle.relax.specs.Hold.{Holding}
+use Rattle.bound.specs.Lookup.{Ends, labelIn, labelsIn, Linked}
+use Rattle.bound.specs.Bound.{HoldsAt}
+use Rattle.bound.specs.Going.{Given, AllKept, Going}
 use Rattle.schedule.specs.Turn.{Nothing}
 use Rattle.schedule.specs.Mark.{heldIn, HeldAll}
 use Rattle.schedule.specs.Round.{First, Relaxed, heightIn, heightMost}
-use Rattle.schedule.proofs.Closed.{Closed, well-closed, inside, ready-step}
-use Rattle.schedule.proofs.Guard.{legal-node, legal-diffs, ok-legal}
-use Rattle.schedule.proofs.Forced.{ok-same}
-use Rattle.schedule.proofs.Passes.{pass-start, pass-again, pass-least, pass-floats, Moved, height, height-grows, height-bound}
+use Rattle.relax.proofs.Closed.{Closed, well-closed, inside, ready-step}
+use Rattle.relax.proofs.Guard.{legal-node, legal-diffs, ok-legal}
+use Rattle.relax.proofs.Forced.{ok-same}
+use Rattle.relax.proofs.Passes.{pass-start, pass-again, pass-least, pass-floats, Moved, height, height-grows, height-bound}
 use Rattle.schedule.proofs.Loop.{passing-pass, passing-grows, passing-heeds}
 use Rattle.schedule.proofs.TurnTables.{node-in, latency-is, delay-is, difference-in, kept-at, holds-at}
 

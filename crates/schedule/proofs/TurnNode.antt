@@ -18,14 +18,15 @@ use Rattle.maps.proofs.Member.{All-of, All-ids, All-get}
 use Rattle.maps.proofs.Planned.{delays, operands-below}
 use Rattle.sheet.specs.Table.{kindIn, delayIn, countIn, operandIn}
 use Rattle.sheet.specs.declared.reader.Header as R
-use Rattle.schedule.specs.Guard.{Forced}
-use Rattle.schedule.specs.Settle.{arrives, By, Settles, Pass}
-use Rattle.schedule.specs.Lookup.{labelIn, arrivalIn, Beside}
-use Rattle.schedule.specs.Level.{Latest}
-use Rattle.schedule.specs.Going.{Given, Keeps, AllKept, Going, Placed, Based}
-use Rattle.schedule.proofs.Closed.{Closed, well-closed}
-use Rattle.schedule.proofs.Forced.{forced-operand}
-use Rattle.schedule.proofs.Passes.{base-forced, base-level, settles-from, settles-input, arrives-level}
+use Rattle.relax.specs.Guard.{Forced}
+use Rattle.relax.specs.Settle.{arrives, By, Settles, Pass}
+use Rattle.bound.specs.Lookup.{labelIn, arrivalIn, Beside}
+use Rattle.bound.specs.Bound.{Latest}
+use Rattle.bound.specs.Going.{Given, Keeps, AllKept, Going, Based}
+use Rattle.level.specs.Carry.{Placed}
+use Rattle.relax.proofs.Closed.{Closed, well-closed}
+use Rattle.relax.proofs.Forced.{forced-operand}
+use Rattle.relax.proofs.Passes.{base-forced, base-level, settles-from, settles-input, arrives-level}
 use Rattle.schedule.proofs.TurnTables.{node-in, latency-is, delay-is}
 
 -- a kept cut beside a row that changed is as it was

@@ -10,10 +10,10 @@ use Rattle.maps.proofs.Member.{All-of, All-get}
 use Rattle.sheet.specs.Table.{latencyIn, delayIn, toIn, noDifference, differenceAt, Falling}
 use Rattle.sheet.specs.declared.reader.Header as R
 use Rattle.sheet.proofs.Tables.{falling}
-use Rattle.schedule.specs.Guard.{Kept}
-use Rattle.schedule.specs.Lookup.{Soon}
-use Rattle.schedule.specs.Level.{Summed, HoldsAt}
-use Rattle.schedule.specs.Going.{Given, Timed}
+use Rattle.relax.specs.Guard.{Kept}
+use Rattle.bound.specs.Lookup.{Soon}
+use Rattle.bound.specs.Bound.{Summed, HoldsAt}
+use Rattle.bound.specs.Going.{Given, Timed}
 
 module _ {S : Sheet} {graph differences : List ℕ} {limits : R.Header} (g : Given S graph differences limits) where
   pub few-nodes : limits .nodes ≤ 256

@@ -13,11 +13,11 @@ use Rattle.maps.specs.Label.{Label}
 use Rattle.maps.specs.Sheet.{Sheet, size, latency}
 use Rattle.sheet.specs.Table.{latencyIn}
 use Rattle.sheet.specs.declared.reader.Header as R
-use Rattle.schedule.specs.Settle.{Settles, Pass, Passing, onward}
-use Rattle.schedule.specs.Lookup.{labelIn}
-use Rattle.schedule.specs.Going.{AllKept, Timed, Going}
+use Rattle.relax.specs.Settle.{Settles, Pass, Passing, onward}
+use Rattle.bound.specs.Lookup.{labelIn}
+use Rattle.bound.specs.Going.{AllKept, Timed, Going}
 use Rattle.schedule.specs.Turn.{Nothing}
-use Rattle.schedule.proofs.Guard.{legal-node, legal-diffs, guarded-under}
+use Rattle.relax.proofs.Guard.{legal-node, legal-diffs, guarded-under}
 use Rattle.schedule.proofs.Loop.{raised-tables}
 use Rattle.schedule.proofs.TurnTables.{node-in, latency-is}
 

@@ -1,11 +1,3 @@
-pub mod Guard
-pub mod Settle
-pub mod Hold
-pub mod Lookup
-pub mod Level
-pub mod Going
-pub mod Cuts
-pub mod Span
 pub mod Turn
 pub mod Mark
 pub mod Round

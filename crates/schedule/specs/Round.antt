@@ -10,9 +10,9 @@ use Rattle.sheet.specs.Table.{delayIn, latencyIn}
 use Rattle.sheet.specs.declared.reader.Header as R
 use Rattle.schedule.specs.declared.labels.Turn.{Turn}
 use Rattle.schedule.specs.declared.labels.Turn.the-variants as Is
-use Rattle.schedule.specs.Settle.{Pass}
-use Rattle.schedule.specs.Lookup.{Ends, labelIn}
-use Rattle.schedule.specs.Going.{Going}
+use Rattle.relax.specs.Settle.{Pass}
+use Rattle.bound.specs.Lookup.{Ends, labelIn}
+use Rattle.bound.specs.Going.{Going}
 use Rattle.schedule.specs.Turn.{Nothing}
 
 -- the first labels, each in time; or a latency that is not

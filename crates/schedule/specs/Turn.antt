@@ -8,9 +8,9 @@ use Rattle.maps.specs.Label.{Label}
 use Rattle.maps.specs.Sheet.{Sheet, size}
 use Rattle.maps.specs.Legal.{Legal}
 use Rattle.sheet.specs.declared.reader.Header as R
-use Rattle.schedule.specs.Settle.{Settles, Passing}
-use Rattle.schedule.specs.Lookup.{Ends, labelIn}
-use Rattle.schedule.specs.Going.{AllKept, Going}
+use Rattle.relax.specs.Settle.{Settles, Passing}
+use Rattle.bound.specs.Lookup.{Ends, labelIn}
+use Rattle.bound.specs.Going.{AllKept, Going}
 
 -- a settles v, and a cut of each logic node is kept
 pub record SettledNode (S : Sheet) (kept steps levels : List ℕ) (v : ℕ) (a : Label) : Type 0 where

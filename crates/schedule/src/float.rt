@@ -6,8 +6,8 @@ ghost use Prim.Native.Nat.{ℕ, _+_, _<_, _≤_};
 ghost use lib.ListN.{getD, length};
 ghost use Rattle.sheet.specs.Table.{countIn, operandIn, latencyIn, fromIn, toIn, plusIn, minusIn, Falling};
 ghost use Rattle.cut.specs.Search.{zeros};
-ghost use Rattle.schedule.specs.Lookup.{Ends, Soon};
-ghost use Rattle.schedule.specs.Level.{Summed};
+ghost use Rattle.bound.specs.Lookup.{Ends, Soon};
+ghost use Rattle.bound.specs.Bound.{Summed};
 ghost use Rattle.schedule.specs.Mark.{More, heldIn, Near, HeldOperands, HeldDifference, Marked, HeldAll};
 
 // Holds the nodes of step 0, and no other.

@@ -2,9 +2,9 @@
 use Rattle.planner.proofs.CoverCut.{may, placed, picked}
 use mathlib.Core.Path.{subst}
 use Rattle.maps.specs.Label.{Label}
-use Rattle.schedule.specs.Lookup.{labelIn}
-use Rattle.schedule.specs.Level.{CodesBy}
-use Rattle.schedule.proofs.LevelCodes.{asked-by}
+use Rattle.bound.specs.Lookup.{labelIn}
+use Rattle.level.specs.Carry.{CodesBy}
+use Rattle.level.proofs.LevelCodes.{asked-by}
 use borrow.Author.Needs.{needs}
 use Rattle.planner.proofs.covering.choose_cut.Statement.{statement}
 use Rattle.planner.proofs.covering.choose_cut.Tie as tie

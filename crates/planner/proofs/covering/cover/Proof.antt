@@ -4,7 +4,7 @@ use mathlib.Core.Path.{_≡_, subst}
 use native.Mathlib.Omega.{arith}
 use lib.ListN.{length-replicate, getD-replicate}
 use Rattle.maps.specs.Sheet.{Sheet, size}
-use Rattle.schedule.specs.Lookup.{labelsIn}
+use Rattle.bound.specs.Lookup.{labelsIn}
 use Rattle.planner.specs.Cover.{Rows}
 use Rattle.planner.specs.Covering.{Laid, Going}
 use Rattle.planner.proofs.CoverTurn.{going-none, going-done, rows-none, rows-fewer}

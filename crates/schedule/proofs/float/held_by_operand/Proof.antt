@@ -6,7 +6,7 @@ use Prim.Native.Nat.{ℕ, _-_, _≤_, _<_}
 use mathlib.Core.Path.{refl}
 use mathlib.Core.Logic.{⊎-elim}
 use Rattle.sheet.specs.Table.{operandIn}
-use Rattle.schedule.specs.Lookup.{Soon}
+use Rattle.bound.specs.Lookup.{Soon}
 use Rattle.schedule.specs.Mark.{Near}
 use Rattle.schedule.proofs.HoldMarks.{held-no, not-both}
 use Rattle.schedule.proofs.float.held_by_operand.Statement.{statement}

@@ -2,9 +2,9 @@
 use borrow.Author.Needs.{needs}
 use Prim.Native.Nat.{_-_}
 use Rattle.maps.specs.Sheet.{Sheet}
-use Rattle.schedule.specs.Settle.{Pass}
-use Rattle.schedule.specs.Lookup.{labelIn}
-use Rattle.schedule.specs.Going.{Going}
+use Rattle.relax.specs.Settle.{Pass}
+use Rattle.bound.specs.Lookup.{labelIn}
+use Rattle.bound.specs.Going.{Going}
 use Rattle.schedule.specs.Round.{heightIn, heightMost}
 use Rattle.schedule.proofs.Rounds.{closer}
 use Rattle.schedule.proofs.labels.relax.Statement.{statement}

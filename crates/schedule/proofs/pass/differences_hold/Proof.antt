@@ -4,7 +4,7 @@ use borrow.Author.Count.{below-more}
 use borrow.Author.Tests.{not-true, not-false}
 use native.Mathlib.Omega.{arith}
 use Prim.Native.Nat.{ℕ, _-_, _≤_, _<_}
-use Rattle.schedule.specs.Level.{HoldsAt}
+use Rattle.bound.specs.Bound.{HoldsAt}
 use Rattle.schedule.proofs.pass.differences_hold.Statement.{statement}
 use Rattle.schedule.proofs.pass.differences_hold.Tie as tie
 

@@ -1,0 +1,129 @@
+-- The one law of the lower bounds on a node's step: what operands and differences ask in the tables is what the sheet asks.
+use Prim.Native.Nat.{ℕ, _+_, _-_, _≤_, _<_}
+use mathlib.Core.Path.{_≡_, sym, subst, ap, _∙_}
+use mathlib.Core.List.{List, List·Memᴰ}
+use native.Mathlib.Omega.{arith}
+use lib.ListN.{length, getD}
+use Rattle.maps.specs.Label.{Label, _≼_}
+use Rattle.maps.specs.Sheet.{Sheet, Difference, node, size, latency}
+use Rattle.maps.specs.Legal.{readyOf}
+use Rattle.maps.proofs.Member.{All-at, mem-out, mem-in}
+use Rattle.sheet.specs.Table.{countIn, operandIn, latencyIn, fromIn, toIn, plusIn, minusIn, differenceAt, noDifference}
+use Rattle.sheet.specs.declared.reader.Header as R
+use Rattle.relax.specs.Guard.{NodeOk, DiffsInto}
+use Rattle.relax.specs.Settle.{Asks}
+use Rattle.bound.specs.Lookup.{labelIn}
+use Rattle.bound.specs.Bound.{Greatest, readyStep}
+use Rattle.bound.specs.Going.{Given, Timed}
+use Rattle.relax.proofs.Closed.{Closed, well-closed, inside, ready-step}
+use Rattle.bound.proofs.Safety.{mem-index, index-mem, falls, ids-few, soon, summed}
+
+module _ (S : Sheet) (graph differences : List ℕ) (limits : R.Header) (given : Given S graph differences limits)
+    (steps levels : List ℕ) (timed : Timed S steps levels) (v : ℕ) (l : v < size S) where
+  abbrev L : ℕ → Label
+  L = labelIn steps levels
+
+  closed : Closed S
+  closed = well-closed S (given .well)
+
+  id : v < 256
+  id = omega (arith, ids-few S graph differences limits given)
+
+  abbrev pushOf : ℕ → ℕ
+  pushOf i = getD steps (fromIn differences i) 0 + plusIn differences i - minusIn differences i
+
+  -- operand j of v
+  operand-is : (j : ℕ) → j < length (node S v .operands) → readyStep graph steps v j ≡ L (getD (node S v .operands) j 0) .step + latency S (getD (node S v .operands) j 0)
+  operand-is j h =
+      let e = given .tabled .operands v j id h in
+      let u = getD (node S v .operands) j 0 in
+      let low : u < v = closed .ordered v u (mem-in (node S v .operands) (index-mem 0 (node S v .operands) j h)) in
+      omega (arith, ap (λ (w : ℕ). getD steps w 0) e, ap (latencyIn graph) e, given .tabled .latencies u (omega arith))
+
+  -- difference d of the sheet stands at place i
+  record At (i : ℕ) (d : Difference) : Type 0 where
+    within : i < limits .differences
+    from : fromIn differences i ≡ d .from
+    to : toIn differences i ≡ d .to
+    plus : plusIn differences i ≡ d .plus
+    minus : minusIn differences i ≡ d .minus
+
+  at-place : (i : ℕ) → i < limits .differences → At i (differenceAt S i)
+  at-place i h =
+      let k : i < length (S .differences) = omega (arith, given .count) in
+      record { within = h; from = given .listed .froms i k; to = given .listed .tos i k; plus = given .listed .pluses i k; minus = given .listed .minuses i k }
+
+  at-member : (d : Difference) → List·Memᴰ d (S .differences) → (i : ℕ) × At i d
+  at-member d m =
+      let r = mem-index noDifference (S .differences) m in
+      (r .0, subst (At (r .0)) (r .2) (at-place (r .0) (omega (arith, r .1, given .count))))
+
+  module _ (s r : ℕ) (ops : Greatest (getD steps v 0) (λ j. j < countIn graph v) (readyStep graph steps v) s)
+      (diffs : Greatest s (λ i. (i < limits .differences) × (toIn differences i ≡ v)) pushOf r) where
+    asked : (Q : ℕ → Label) → ((u : ℕ) → u < size S → L u ≼ Q u) → NodeOk S Q v → DiffsInto S Q v → r ≤ Q v .step
+    asked Q up ok into = diffs .least (Q v .step) (ops .least (Q v .step) (up v l .steps) operand) difference
+      where
+        operand : (j : ℕ) → j < countIn graph v → readyStep graph steps v j ≤ Q v .step
+        operand j h =
+            let k : j < length (node S v .operands) = omega (arith, given .tabled .counts v id) in
+            let u = getD (node S v .operands) j 0 in
+            let m = index-mem 0 (node S v .operands) j k in
+            let low : u < v = closed .ordered v u (mem-in (node S v .operands) m) in
+            omega (arith, operand-is j k, up u (omega arith) .steps, ready-step (latency S u) (Q u), All-at (λ u. readyOf S Q u .step ≤ Q v .step) (node S v .operands) (ok .after) m)
+
+        difference : (i : ℕ) → (i < limits .differences) × (toIn differences i ≡ v) → pushOf i ≤ Q v .step
+        difference i h =
+            let d = differenceAt S i in
+            let m = index-mem noDifference (S .differences) i (omega (arith, given .count, h .0)) in
+            let a = at-place i (h .0) in
+            let e : d .to ≡ v = sym (a .to) ∙ h .1 in
+            omega (
+              arith,
+              ap (λ (u : ℕ). getD steps u 0) (a .from),
+              a .plus,
+              a .minus,
+              up (d .from) (inside S closed d m .0) .steps,
+              into .into d m e,
+              ap (λ (u : ℕ). Q u .step) e,
+            )
+
+    pub asks-tables : Asks S L v r
+    asks-tables =
+        record {
+          asked = asked;
+          own = omega (arith, ops .own, diffs .own);
+          after = λ u e.
+              let p = mem-index 0 (node S v .operands) (mem-out u (node S v .operands) e) in
+              omega (
+                arith,
+                ops .all (p .0) (omega (arith, p .1, given .tabled .counts v id)),
+                diffs .own,
+                operand-is (p .0) (p .1),
+                ap (λ (w : ℕ). L w .step) (p .2),
+                ap (latency S) (p .2),
+              );
+          into = λ d m e.
+              let a = at-member d m in
+              omega (
+                arith,
+                diffs .all (a .0) (a .1 .within, a .1 .to ∙ e),
+                ap (λ (u : ℕ). getD steps u 0) (a .1 .from),
+                a .1 .plus,
+                a .1 .minus,
+              );
+        }
+
+    pub asks-small : r < 4294967295
+    asks-small =
+        let b : r ≤ 4294967294 = diffs .least 4294967294 (ops .least 4294967294 (omega (arith, own)) operand) difference in omega arith
+      where
+        own : getD steps v 0 + latencyIn graph v < 4294967295
+        own = soon S graph differences limits given steps levels timed v l
+
+        operand : (j : ℕ) → j < countIn graph v → readyStep graph steps v j ≤ 4294967294
+        operand j h =
+            let u = falls S graph differences limits given .falls v j id h in
+            omega (arith, soon S graph differences limits given steps levels timed (operandIn graph v j) (omega arith))
+
+        difference : (i : ℕ) → (i < limits .differences) × (toIn differences i ≡ v) → pushOf i ≤ 4294967294
+        difference i h = omega (arith, summed S graph differences limits given steps levels timed i (h .0) .ahead)

@@ -1,0 +1,4 @@
+pub mod Arriving
+pub mod Asking
+pub mod Safety
+pub mod Bounds

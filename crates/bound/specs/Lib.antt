@@ -1,0 +1,3 @@
+pub mod Lookup
+pub mod Bound
+pub mod Going

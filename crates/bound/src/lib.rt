@@ -1,0 +1,11 @@
+// The lower bounds on a node's label: its own label, its operands and the differences into it.
+mod arrive;
+mod asked;
+
+pub use arrive::arrival;
+pub use arrive::greater;
+pub use arrive::label_of;
+pub use arrive::latest_arrival;
+pub use arrive::level_in;
+pub use asked::base_label;
+pub use asked::link;

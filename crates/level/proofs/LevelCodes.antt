@@ -1,0 +1,112 @@
+-- The question which cuts of v carry a label: its codes, and what its answer says.
+use Prim.Native.Nat.{ℕ, _+_, _≤_, _<_}
+use mathlib.Core.Path.{_≡_, refl, sym, subst, ap, _∙_}
+use mathlib.Core.Bool.{Bool, true, false}
+use mathlib.Core.List.{List}
+use native.Mathlib.Omega.{arith}
+use lib.Dec.{eqb}
+use lib.ListN.{length, getD, set}
+use lib.Seq.{getD-set-other}
+use Rattle.maps.specs.Label.{Label, leq, plus, ready, _≼_}
+use Rattle.maps.specs.Sheet.{Sheet, Kind, input, logic, box, isLogic, node, size, latency}
+use Rattle.maps.specs.Cut.{cut}
+use Rattle.maps.specs.WellFormed.{codeOf}
+use Rattle.maps.proofs.Order.{leq-true, ≼-leq}
+use Rattle.maps.proofs.Member.{All-at, All-of, All-get}
+use Rattle.sheet.specs.Table.{kindIn, delayIn, latencyIn}
+use Rattle.cut.specs.Question.{codeFor, Asked}
+use Rattle.cut.proofs.Listing.{filled-more}
+use Rattle.relax.specs.Settle.{arrives}
+use Rattle.bound.specs.Lookup.{labelIn, arrivalIn}
+use Rattle.level.specs.Carry.{CodesBy, Placed}
+use Rattle.level.specs.Cuts.{TriedCut}
+use Rattle.level.specs.Span.{TriedLevel}
+use Rattle.relax.proofs.Forced.{leaf-read}
+
+module _ (graph steps levels : List ℕ) (v top : ℕ) (a : Label) where
+  -- u arrives at v by a
+  abbrev pub inTime : ℕ → Bool
+  inTime u = leq (arrivalIn graph steps levels top (delayIn graph v) u) a
+
+  abbrev pub codeBy : ℕ → ℕ
+  codeBy u = codeFor (eqb (kindIn graph u) 1) (inTime u)
+
+  -- the codes of the nodes below u stand, and that of v is 0
+  pub record Coded (code : List ℕ) (u : ℕ) : Type 0 where
+    pub done : (i : ℕ) → i < u → getD code i 0 ≡ codeBy i
+    pub own : getD code v 0 ≡ 0
+
+module _ {graph steps levels : List ℕ} {v top : ℕ} {a : Label} {code : List ℕ} where
+  pub coded-none : getD code v 0 ≡ 0 → Coded graph steps levels v top a code 0
+  coded-none h = record { done = λ i l. absurd (omega arith); own = h }
+
+  pub coded-more : {u r : ℕ} → u < v → u < length code → r ≡ codeBy graph steps levels v top a u → Coded graph steps levels v top a code u
+      → Coded graph steps levels v top a (set code u r) (u + 1)
+  coded-more {u} {r} l m e h =
+      record {
+        done = subst (λ (x : ℕ). (i : ℕ) → i < u + 1 → getD (set code u x) i 0 ≡ codeBy graph steps levels v top a i) (sym e)
+            (filled-more (codeBy graph steps levels v top a) code u m (h .done));
+        own = getD-set-other code u v r 0 (λ z. omega arith) ∙ h .own;
+      }
+
+  pub coded-all : {u : ℕ} → v ≤ u → Coded graph steps levels v top a code u → CodesBy graph steps levels code v top a
+  coded-all l h = record { below = λ i m. h .done i (omega arith); own = h .own }
+
+logic-code : (k : Kind) → eqb (codeOf k) 1 ≡ isLogic k
+logic-code input = refl
+logic-code logic = refl
+logic-code (box lat) = refl
+
+module _ {S : Sheet} {graph : List ℕ} {v k top : ℕ} (placed : Placed S graph v k top) where
+  pub placed-in : v < 256
+  placed-in = omega (arith, placed .node, placed .well .size .most)
+
+  module _ (steps levels : List ℕ) where
+    -- the arrivals of the tables are the sheet's
+    pub arrives-in : (u : ℕ) → u < 256 → arrivalIn graph steps levels top (delayIn graph v) u ≡ arrives S (labelIn steps levels) v u
+    unfolding arrivalIn
+    arrives-in u l =
+        let a = labelIn steps levels u in
+        ap (λ (d : ℕ). plus top (ready (latencyIn graph u) a) d) (placed .tabled .delays v placed-in)
+        ∙ ap (λ (lat : ℕ). plus top (ready lat a) (node S v .delay)) (placed .tabled .latencies u l)
+        ∙ ap (λ (t : ℕ). plus t (ready (latency S u) a) (node S v .delay)) (placed .tops)
+
+    module _ (a : Label) where
+      pub asked-by : {code : List ℕ} → CodesBy graph steps levels code v top a → Asked S (inTime graph steps levels v top a) v graph code
+      asked-by h =
+          record {
+            well = placed .well;
+            tabled = placed .tabled;
+            node = placed .node;
+            logic = placed .logic;
+            below = λ u l.
+                h .below u l
+                ∙ ap (λ (b : Bool). codeFor b (inTime graph steps levels v top a u))
+                (ap (λ (c : ℕ). eqb c 1) (placed .tabled .kinds u (omega (arith, placed-in))) ∙ logic-code (node S u .kind));
+            own = h .own;
+          }
+
+      pub tried-by : (kept : List ℕ) (r : Bool) → TriedCut S (inTime graph steps levels v top a) v k kept r → TriedLevel S graph steps levels kept v top a r
+      tried-by kept true h =
+          let row = h .3 in (
+            record {
+              leaves = h .0;
+              fitting = record { cone = h .1 .cone; isCone = h .1 .isCone; isCut = h .1 .isCut; fits = omega (arith, h .2, placed .leaves) };
+              row = row;
+            },
+            λ j l.
+                let m : j < length (h .0) = omega (arith, row .count) in
+                subst (λ (u : ℕ). arrivalIn graph steps levels top (delayIn graph v) u ≼ a) (sym (row .leaves j m))
+                (leq-true (All-get (λ u. inTime graph steps levels v top a u ≡ true) 0 (h .0) (h .1 .allowed) j m)),
+          )
+      tried-by kept false h = λ by.
+          h (cut S (by .cone))
+          (record {
+            cone = by .cone;
+            isCone = by .isCone;
+            isCut = refl;
+            allowed = All-of _ (cut S (by .cone)) (λ u m.
+                let l : u < 256 = omega (arith, leaf-read S (by .cone) u m .0, placed .well .size .most) in
+                ≼-leq (subst (λ (b : Label). b ≼ a) (sym (arrives-in u l)) (All-at (λ u. arrives S (labelIn steps levels) v u ≼ a) _ (by .arrive) m)));
+          })
+          (omega (arith, by .fits, placed .leaves))

@@ -1,0 +1,5 @@
+pub mod CutRows
+pub mod CutTests
+pub mod LevelCodes
+pub mod LevelSpan
+pub mod LevelLabel
