@@ -7,7 +7,7 @@ use lib.ListN.{length, getD}
 use Rattle.maps.specs.Label.{Label, _≼_}
 use Rattle.maps.specs.Sheet.{Sheet, Difference, node, size, latency}
 use Rattle.maps.specs.Legal.{readyOf}
-use Rattle.maps.proofs.Member.{All-at, mem-out, mem-in}
+use Rattle.maps.proofs.Member.{All-at, mem-out, mem-in, mem-index, index-mem}
 use Rattle.sheet.specs.Table.{countIn, operandIn, latencyIn, fromIn, toIn, plusIn, minusIn, differenceAt, noDifference}
 use Rattle.sheet.specs.declared.reader.Header as R
 use Rattle.relax.specs.Guard.{NodeOk, DiffsInto}
@@ -16,7 +16,7 @@ use Rattle.bound.specs.Lookup.{labelIn}
 use Rattle.bound.specs.Bound.{Greatest, readyStep}
 use Rattle.bound.specs.Going.{Given, Timed}
 use Rattle.relax.proofs.Closed.{Closed, well-closed, inside, ready-step}
-use Rattle.bound.proofs.Safety.{mem-index, index-mem, falls, ids-few, soon, summed}
+use Rattle.bound.proofs.Safety.{graph-falls, soon-all, summed-all}
 
 module _ (S : Sheet) (graph differences : List ℕ) (limits : R.Header) (given : Given S graph differences limits)
     (steps levels : List ℕ) (timed : Timed S steps levels) (v : ℕ) (l : v < size S) where
@@ -27,7 +27,7 @@ module _ (S : Sheet) (graph differences : List ℕ) (limits : R.Header) (given :
   closed = well-closed S (given .well)
 
   id : v < 256
-  id = omega (arith, ids-few S graph differences limits given)
+  id = omega (arith, given .well .size .most)
 
   abbrev pushOf : ℕ → ℕ
   pushOf i = getD steps (fromIn differences i) 0 + plusIn differences i - minusIn differences i
@@ -118,12 +118,12 @@ module _ (S : Sheet) (graph differences : List ℕ) (limits : R.Header) (given :
         let b : r ≤ 4294967294 = diffs .least 4294967294 (ops .least 4294967294 (omega (arith, own)) operand) difference in omega arith
       where
         own : getD steps v 0 + latencyIn graph v < 4294967295
-        own = soon S graph differences limits given steps levels timed v l
+        own = soon-all given timed v (omega (arith, given .nodes))
 
         operand : (j : ℕ) → j < countIn graph v → readyStep graph steps v j ≤ 4294967294
         operand j h =
-            let u = falls S graph differences limits given .falls v j id h in
-            omega (arith, soon S graph differences limits given steps levels timed (operandIn graph v j) (omega arith))
+            let u = graph-falls given .falls v j id h in
+            omega (arith, soon-all given timed (operandIn graph v j) (omega (arith, given .nodes)))
 
         difference : (i : ℕ) → (i < limits .differences) × (toIn differences i ≡ v) → pushOf i ≤ 4294967294
-        difference i h = omega (arith, summed S graph differences limits given steps levels timed i (h .0) .ahead)
+        difference i h = omega (arith, summed-all given timed i (h .0) .ahead)

@@ -1,65 +1,87 @@
--- What the tables of a sheet ensure of indices and sums.
-use Prim.Native.Nat.{ℕ, zero, suc, _≤_, _<_}
-use mathlib.Core.Path.{_≡_, refl, sym, ap}
-use mathlib.Core.List.{List, [], _∷_, List·Memᴰ, List·Memᴰ·head, List·Memᴰ·tail}
+-- What the tables and the limits of a well-formed sheet keep within, and its labels too while each node ends within the horizon.
+use Prim.Native.Nat.{ℕ, _≤_, _<_}
+use mathlib.Core.Path.{_≡_, ap}
+use mathlib.Core.List.{List, List·Memᴰ}
 use native.Mathlib.Omega.{arith}
-use native.Mathlib.Nat.{not-suc-le-zero}
 use lib.ListN.{length, getD}
-use Rattle.maps.specs.Sheet.{Sheet, size}
+use Rattle.maps.specs.Sheet.{Sheet, node, size, latency}
 use Rattle.maps.specs.WellFormed.{WellDifference}
-use Rattle.maps.proofs.Member.{All-get}
-use Rattle.sheet.specs.Table.{Falling, toIn, differenceAt, noDifference}
+use Rattle.maps.proofs.Member.{All-get, index-mem}
+use Rattle.sheet.specs.Table.{latencyIn, delayIn, toIn, noDifference, differenceAt, Falling}
 use Rattle.sheet.specs.declared.reader.Header as R
 use Rattle.sheet.proofs.Tables.{falling}
+use Rattle.relax.specs.Guard.{Kept}
 use Rattle.bound.specs.Lookup.{Soon}
-use Rattle.bound.specs.Bound.{Summed}
+use Rattle.bound.specs.Bound.{Summed, HoldsAt}
 use Rattle.bound.specs.Going.{Given, Timed}
 
-module _ {A : Type 0} (d : A) where
-  -- the place of an element, and the element at a place
-  pub mem-index : {x : A} (xs : List A) → List·Memᴰ x xs → (j : ℕ) × (j < length xs) × (getD xs j d ≡ x)
-  mem-index (y ∷ ys) (List·Memᴰ·head e) = (0, omega arith, sym e)
-  mem-index (y ∷ ys) (List·Memᴰ·tail m) = let r = mem-index ys m in (suc (r .0), omega (arith, r .1), r .2)
+module _ {S : Sheet} {graph differences : List ℕ} {limits : R.Header} (g : Given S graph differences limits) where
+  pub few-nodes : limits .nodes ≤ 256
+  few-nodes = omega (arith, g .nodes, g .well .size .most)
 
-  pub index-mem : (xs : List A) (j : ℕ) → j < length xs → List·Memᴰ (getD xs j d) xs
-  index-mem [] j h = absurd (not-suc-le-zero h)
-  index-mem (x ∷ xs) zero h = List·Memᴰ·head refl
-  index-mem (x ∷ xs) (suc j) h = List·Memᴰ·tail (index-mem xs j (omega arith))
+  pub few-differences : limits .differences ≤ 1024
+  few-differences = omega (arith, g .count, g .well .count .most)
 
-module _ (S : Sheet) (graph differences : List ℕ) (limits : R.Header) (given : Given S graph differences limits) where
-  pub falls : Falling graph
-  falls = falling S graph (given .well) (given .tabled)
+  pub node-in : (v : ℕ) → v < limits .nodes → (v < size S) × (v < 256)
+  node-in v l = (omega (arith, g .nodes), omega (arith, few-nodes))
 
-  pub ids-few : size S ≤ 256
-  ids-few = given .well .size .most
+  pub latency-is : (v : ℕ) → v < limits .nodes → latencyIn graph v ≡ latency S v
+  latency-is v l = g .tabled .latencies v (node-in v l .1)
 
-  -- difference i of the sheet
-  difference-well : (i : ℕ) → i < limits .differences → WellDifference (size S) (differenceAt S i)
-  difference-well i l = All-get (WellDifference (size S)) noDifference (S .differences) (given .well .differences) i (omega (arith, given .count))
+  pub delay-is : (v : ℕ) → v < limits .nodes → delayIn graph v ≡ node S v .delay
+  delay-is v l = g .tabled .delays v (node-in v l .1)
 
-  pub to-id : (i : ℕ) → i < limits .differences → toIn differences i < 256
-  to-id i l =
-      omega (arith, given .listed .tos i (omega (arith, given .count)), difference-well i l .to, ids-few)
+  pub graph-falls : Falling graph
+  graph-falls = falling S graph (g .well) (g .tabled)
 
-  module _ (steps levels : List ℕ) (timed : Timed S steps levels) where
-    pub soon : (u : ℕ) → u < size S → Soon graph steps u
-    soon u l =
-        omega (arith, timed .ends u l, given .tabled .latencies u (omega (arith, ids-few)), given .well .horizon .most)
+  listed-in : (i : ℕ) → i < limits .differences → i < length (S .differences)
+  listed-in i l = omega (arith, g .count)
 
-    pub step-most : (u : ℕ) → u < size S → getD steps u 0 ≤ 4095
-    step-most u l = omega (arith, timed .ends u l, given .well .horizon .most)
+  pub difference-in : (i : ℕ) → i < limits .differences → List·Memᴰ (differenceAt S i) (S .differences)
+  difference-in i l = index-mem noDifference (S .differences) i (listed-in i l)
 
-    pub summed : (i : ℕ) → i < limits .differences → Summed differences steps i
-    summed i l =
-        let k : i < length (S .differences) = omega (arith, given .count) in
-        let w = difference-well i l in
-        let f = given .listed .froms i k in
-        let t = given .listed .tos i k in
+  well-at : (i : ℕ) → i < limits .differences → WellDifference (size S) (differenceAt S i)
+  well-at i l = All-get (WellDifference (size S)) noDifference (S .differences) (g .well .differences) i (listed-in i l)
+
+  pub targets : (i : ℕ) → i < limits .differences → toIn differences i < 256
+  targets i l = omega (arith, g .listed .tos i (listed-in i l), well-at i l .to, g .well .size .most)
+
+  module _ (steps : List ℕ) where
+    -- what the table says of difference i, and the difference itself
+    pub kept-at : (i : ℕ) → i < limits .differences → HoldsAt differences steps i → Kept (λ u. getD steps u 0) (differenceAt S i)
+    kept-at i l h =
+        let k = listed-in i l in
+        omega (
+          arith,
+          ap (λ (u : ℕ). getD steps u 0) (g .listed .froms i k),
+          ap (λ (u : ℕ). getD steps u 0) (g .listed .tos i k),
+          g .listed .pluses i k,
+          g .listed .minuses i k,
+        )
+
+    pub holds-at : (i : ℕ) → i < limits .differences → Kept (λ u. getD steps u 0) (differenceAt S i) → HoldsAt differences steps i
+    holds-at i l h =
+        let k = listed-in i l in
+        omega (
+          arith,
+          ap (λ (u : ℕ). getD steps u 0) (g .listed .froms i k),
+          ap (λ (u : ℕ). getD steps u 0) (g .listed .tos i k),
+          g .listed .pluses i k,
+          g .listed .minuses i k,
+        )
+
+  module _ {steps levels : List ℕ} (t : Timed S steps levels) where
+    pub soon-all : (u : ℕ) → u < limits .nodes → Soon graph steps u
+    soon-all u l = omega (arith, latency-is u l, t .ends u (node-in u l .0), g .well .horizon .most)
+
+    pub summed-all : (i : ℕ) → i < limits .differences → Summed differences steps i
+    summed-all i l =
+        let k = listed-in i l in
+        let w = well-at i l in
+        let d = differenceAt S i in
         record {
-          from = omega (arith, w .from, ids-few);
-          to = omega (arith, w .to, ids-few);
-          ahead =
-              omega (arith, given .listed .pluses i k, w .plus, ap (λ (u : ℕ). getD steps u 0) f, step-most (differenceAt S i .from) (w .from));
-          behind =
-              omega (arith, given .listed .minuses i k, w .minus, ap (λ (u : ℕ). getD steps u 0) t, step-most (differenceAt S i .to) (w .to));
+          from = omega (arith, g .listed .froms i k, w .from, g .well .size .most);
+          to = targets i l;
+          ahead = omega (arith, ap (λ (u : ℕ). getD steps u 0) (g .listed .froms i k), g .listed .pluses i k, w .plus, t .ends (d .from) (w .from), g .well .horizon .most);
+          behind = omega (arith, ap (λ (u : ℕ). getD steps u 0) (g .listed .tos i k), g .listed .minuses i k, w .minus, t .ends (d .to) (w .to), g .well .horizon .most);
         }

@@ -1,7 +1,7 @@
 -- What stands in the arrays of the labelling.
 use Prim.Native.Nat.{ℕ, zero, suc, _+_, _*_, _≤_, _<_}
 use mathlib.Core.Path.{_≡_}
-use mathlib.Core.Bool.{Bool, true, false, cond}
+use mathlib.Core.Bool.{cond}
 use mathlib.Core.List.{List, map}
 use mathlib.Core.Logic.{_⊎_}
 use lib.Dec.{eqb}
@@ -9,11 +9,6 @@ use lib.ListN.{length, getD}
 use Rattle.maps.specs.Label.{Label, label, plus, ready}
 use Rattle.maps.specs.Lists.{below}
 use Rattle.sheet.specs.Table.{latencyIn, toIn}
-
--- one of two things, as a test came out
-abbrev pub Ends : Bool → Type 0 → Type 0 → Type 0
-Ends true A B = A
-Ends false A B = B
 
 -- the label of v
 abbrev pub labelIn : (steps levels : List ℕ) → ℕ → Label

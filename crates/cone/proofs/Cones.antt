@@ -1,7 +1,7 @@
 -- The walk's table and the cones of the sheet: its members are the cone inside the marks, and its leaves are that cone's cut.
 use Prim.Native.Nat.{ℕ, zero, suc, _+_, _≤_, _<_, min}
 use mathlib.Core.Path.{_≡_, refl, sym, subst, ap, _∙_, fun-ext}
-use mathlib.Core.Bool.{Bool, true, false, not, _&&_}
+use mathlib.Core.Bool.{Bool, true, not, _&&_}
 use mathlib.Core.List.{List, [], _∷_}
 use mathlib.Core.Logic.{_⊎_, inl, inr}
 use native.Mathlib.Decide.{ℕ-discrete, decLt}
@@ -13,19 +13,13 @@ use Rattle.maps.specs.Lists.{mem, any, keep, below}
 use Rattle.maps.specs.Sheet.{Sheet, node, size}
 use Rattle.maps.specs.Cut as Cut
 use Rattle.maps.specs.Cut.{reads, logicNode, Path-to, end, edge, cut}
-use Rattle.maps.proofs.Over.{and-true}
+use Rattle.maps.proofs.Over.{and-true, same-test}
 use Rattle.maps.proofs.Member.{any-found, any-of, or-true, or-right, below-in}
 use Rattle.maps.proofs.Enumerate.{clash}
 use Rattle.sheet.specs.Table.{Falling, countIn, operandIn}
 use Rattle.cone.specs.Walk.{marked, ConeInside, Question, FitTest}
 use Rattle.cone.specs.Part.{Member, Met, Read, Settled, member, leaf, Walked, leavesBelow, Listed}
 use Rattle.cone.proofs.Listing.{leaves-end}
-
-bool-ext : (a b : Bool) → (a ≡ true → b ≡ true) → (b ≡ true → a ≡ true) → a ≡ b
-bool-ext true true f g = refl
-bool-ext true false f g = sym (f refl)
-bool-ext false true f g = g refl
-bool-ext false false f g = refl
 
 -- there is one cone of v inside the marks
 module _ (S : Sheet) (marked : ℕ → Bool) (v : ℕ) where
@@ -39,7 +33,7 @@ module _ (S : Sheet) (marked : ℕ → Bool) (v : ℕ) where
       go h (inr t) = d .whole m u h r t
 
   pub one-cone : (C D : ℕ → Bool) → ConeInside S marked v C → ConeInside S marked v D → (u : ℕ) → C u ≡ D u
-  one-cone C D c d u = bool-ext (C u) (D u) (λ e. joins c d e (c .isCone .joined u e)) (λ e. joins d c e (d .isCone .joined u e))
+  one-cone C D c d u = same-test (C u) (D u) (λ e. joins c d e (c .isCone .joined u e)) (λ e. joins d c e (d .isCone .joined u e))
 
 -- the elements of a list are those at its places
 at-mem : (xs : List ℕ) (j : ℕ) → j < length xs → mem (getD xs j 0) xs ≡ true
@@ -173,7 +167,7 @@ module _ (S : Sheet) (g marks p : List ℕ) (v : ℕ) (falling : Falling g) (ask
   cut-is : cut S (members p) ≡ leavesBelow p v
   unfolding cut leavesBelow
   cut-is =
-      ap (λ (t : ℕ → Bool). keep t (below (size S))) (fun-ext (λ u. bool-ext _ _ (leaf-two u) (two-leaf u)))
+      ap (λ (t : ℕ → Bool). keep t (below (size S))) (fun-ext (λ u. same-test _ _ (leaf-two u) (two-leaf u)))
       ∙ leaves-end p past (size S) (omega (arith, asked .within))
     where
       past : (u : ℕ) → v ≤ u → getD p u 0 ≡ 2 → ⊥

@@ -1,10 +1,10 @@
 -- How the walk's table grows.
-use Prim.Native.Nat.{ℕ, zero, suc, _+_, _≤_, _<_}
+use Prim.Native.Nat.{ℕ, _+_, _≤_, _<_}
 use mathlib.Core.Path.{_≡_, refl, sym, ap, _∙_}
 use mathlib.Core.List.{List}
 use native.Mathlib.Decide.{ℕ-discrete}
 use native.Mathlib.Omega.{arith}
-use lib.ListN.{length, getD, set, replicate, length-set}
+use lib.ListN.{length, getD, set, length-set}
 use lib.Seq.{getD-set-same, getD-set-other}
 use Rattle.sheet.specs.Table.{countIn, operandIn}
 use Rattle.cone.specs.Part.{Member, Met, Kept, Lent, Read, Settled, member, leaf, Grown, Walked}
@@ -122,9 +122,3 @@ module _ (g marks : List ℕ) where
         read = λ u f n. a .read u (getD-set-other p v u 1 0 f ∙ none u) n;
         settled = λ u f n. a .settled u (getD-set-other p v u 1 0 f ∙ none u) n;
       }
-
--- a table of zeros has no node met
-pub none-met : (n u : ℕ) → _≡_ {A = ℕ} (getD (replicate n 0) u 0) 0
-none-met zero u = refl
-none-met (suc n) zero = refl
-none-met (suc n) (suc u) = none-met n u

@@ -1,7 +1,7 @@
 -- The list of the leaves below a node, turn by turn.
 use Prim.Native.Nat.{ℕ, suc, _+_, _≤_, _<_}
 use mathlib.Core.Path.{_≡_, refl, sym, ap, _∙_}
-use mathlib.Core.Bool.{Bool, true, false, cond}
+use mathlib.Core.Bool.{cond}
 use mathlib.Core.List.{List, [], _∷_, _++_}
 use native.Mathlib.Numerals.{add-one}
 use native.Mathlib.Decide.{le-ind}
@@ -10,20 +10,13 @@ use lib.Dec.{eqb}
 use lib.ListN.{length, getD, set, take, length-append, length-take}
 use lib.Seq.{take-suc-set}
 use borrow.Author.Tests.{eq-eqb, ne-eqb}
-use Rattle.maps.specs.Lists.{keep, below}
+use Rattle.maps.specs.Lists.{below}
+use Rattle.maps.proofs.Member.{keep-append}
 use Rattle.cone.specs.Part.{leavesBelow, Listed}
 
 ++-nil : (l : List ℕ) → l ++ [] ≡ l
 ++-nil [] = refl
 ++-nil (a ∷ l) = ap (λ (m : List ℕ). a ∷ m) (++-nil l)
-
-keep-append : (p : ℕ → Bool) (xs ys : List ℕ) → keep p (xs ++ ys) ≡ keep p xs ++ keep p ys
-keep-append p [] ys = refl
-keep-append p (x ∷ xs) ys = go (p x) (keep-append p xs ys)
-  where
-    go : (b : Bool) → keep p (xs ++ ys) ≡ keep p xs ++ keep p ys → cond b (x ∷ keep p (xs ++ ys)) (keep p (xs ++ ys)) ≡ cond b (x ∷ keep p xs) (keep p xs) ++ keep p ys
-    go true e = ap (λ (l : List ℕ). x ∷ l) e
-    go false e = e
 
 module _ (p : List ℕ) where
   leaves-turn : (i : ℕ) → leavesBelow p (suc i) ≡ leavesBelow p i ++ cond (eqb (getD p i 0) 2) (i ∷ []) []

@@ -13,12 +13,6 @@ bool false = inr refl
 pub differ : (b : Bool) → b ≡ true → b ≡ false → ⊥
 differ b t f = let z : _≡_ {A = ℕ} 0 1 = ap bit (sym f ∙ t) in omega arith
 
-pub same-test : (a b : Bool) → (a ≡ true → b ≡ true) → (b ≡ true → a ≡ true) → a ≡ b
-same-test true true f g = refl
-same-test true false f g = sym (f refl)
-same-test false true f g = g refl
-same-test false false f g = refl
-
 pub bit-true : (b : Bool) → 1 ≤ bit b → b ≡ true
 bit-true true h = refl
 bit-true false h = absurd (omega arith)

@@ -10,14 +10,14 @@ use lib.ListN.{length, getD}
 use Rattle.maps.specs.Lists.{All, any, below, before}
 use Rattle.maps.specs.Sheet.{Sheet, size, node}
 use Rattle.maps.specs.Cut.{reads, logicNode, Cone, leaf, cut}
-use Rattle.maps.proofs.Over.{and-true}
+use Rattle.maps.proofs.Over.{and-true, same-test}
 use Rattle.maps.proofs.Member.{All-at, All-of, any-found, any-of, keep-in, keep-out, mem-in, mem-out, below-in, below-out}
 use Rattle.maps.proofs.Enumerate.{Ordered, path-le}
 use Rattle.maps.proofs.Planned.{ordered}
 use Rattle.sheet.specs.Table.{countIn, operandIn, Falling}
 use Rattle.cut.specs.Question.{AllowedCut, Fewest, Best, codeFor, Asked}
 use Rattle.cut.specs.Search.{at, Leafy, Legal, Touch, Leaf, bit, Valued, Settled, Augmented, Final, member, leafMark, rising}
-use Rattle.cut.proofs.Bools.{bool, differ, same-test, bit-true, and-yes}
+use Rattle.cut.proofs.Bools.{bool, differ, bit-true, and-yes}
 use Rattle.cut.proofs.Sums.{sum, sum-tight, length-rising}
 use Rattle.cut.proofs.Listing.{keep-rising, rising-same, rising-low}
 use Rattle.cut.proofs.Duality.{units-least}

@@ -8,9 +8,10 @@ use native.Mathlib.Decide.{ℕ-discrete}
 use native.Mathlib.Omega.{arith}
 use lib.ListN.{length}
 use lib.Dec.{eqb}
+use Rattle.maps.proofs.Over.{same-test}
 use Rattle.sheet.specs.Table.{countIn, operandIn, Falling}
 use Rattle.cut.specs.Search.{at, Leafy, Legal, Touch, Link, Flow, bit, gate, count, Seen, Entered, OutDone, Blocked, Valued, Settled, Leaf, some?, member, leafMark, rising}
-use Rattle.cut.proofs.Bools.{differ, same-test, out-yes, out-no}
+use Rattle.cut.proofs.Bools.{differ, out-yes, out-no}
 use Rattle.cut.proofs.Marks.{some-yes, some-no, member-yes, member-no}
 use Rattle.cut.proofs.Laws.{done-grows}
 use Rattle.cut.proofs.Sums.{sum, sum-ext, length-rising, rising-bit}

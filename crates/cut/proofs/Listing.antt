@@ -10,6 +10,7 @@ use native.Mathlib.Decide.{ℕ-discrete, decLt}
 use lib.ListN.{length, set, take, length-set}
 use lib.Seq.{ext-getD, take-suc, take-set-le, getD-set-same, getD-set-other}
 use Rattle.maps.specs.Lists.{keep, below}
+use Rattle.maps.proofs.Member.{keep-append}
 use Rattle.cut.specs.Search.{at, bit, Seen, leafMark, single, rising, Turned, held, grown, Blocked, Pushed}
 use Rattle.cut.proofs.Bools.{bool}
 use Rattle.cut.proofs.Sums.{length-turn}
@@ -69,14 +70,6 @@ rising-grow f m (suc n) le = go (λ l. rising-grow f m n l) (ℕ-discrete m (suc
     go : (m ≤ n → length (rising f m) ≤ length (rising f n)) → Dec (m ≡ suc n) → length (rising f m) ≤ length (rising f n ++ single (f n) n)
     go rec (yes e) = let q = ap (λ (k : ℕ). length (rising f k)) e in omega arith
     go rec (no ne) = let ih = rec (omega arith) in let k = length-turn f n in omega arith
-
-keep-append : (f : ℕ → Bool) (xs ys : List ℕ) → keep f (xs ++ ys) ≡ keep f xs ++ keep f ys
-keep-append f [] ys = refl
-keep-append f (x ∷ xs) ys = go (f x) (keep-append f xs ys)
-  where
-    go : (b : Bool) → keep f (xs ++ ys) ≡ keep f xs ++ keep f ys → cond b (x ∷ keep f (xs ++ ys)) (keep f (xs ++ ys)) ≡ cond b (x ∷ keep f xs) (keep f xs) ++ keep f ys
-    go true e = ap (λ (l : List ℕ). x ∷ l) e
-    go false e = e
 
 -- the same as a selection
 pub keep-rising : (f : ℕ → Bool) (n : ℕ) → keep f (below n) ≡ rising f n

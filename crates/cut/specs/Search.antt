@@ -126,7 +126,7 @@ pub record Pushed (graph code s above above′ : List ℕ) (from : ℕ) : Type 0
   pub more : (u : ℕ) → u < 256 → Inside graph code u → count u above′ ≡ count u above + bit (eqb from u)
   pub kept : (x : ℕ) → x < 256 → Seen s (x + 256) → at above′ x ≡ at above x
 
--- a when the search succeeded, b when it failed
+-- a where a test came out true, b where it came out false
 abbrev pub Ends : Bool → Type 0 → Type 0 → Type 0
 Ends true a b = a
 Ends false a b = b

@@ -1,7 +1,7 @@
 -- Which logic nodes have a fitting cut, and the lowest that has none.
 use Prim.Native.Nat.{ℕ, zero, suc, _+_, _≤_, _<_}
 use mathlib.Core.Path.{_≡_, refl, sym, subst, ap, _∙_}
-use mathlib.Core.Bool.{Bool, true, false, cond, _&&_}
+use mathlib.Core.Bool.{Bool, true, false, _&&_}
 use mathlib.Core.List.{List, [], _∷_, _++_, List·Memᴰ, List·Memᴰ·head, List·Memᴰ·not-nil}
 use mathlib.Core.Logic.{_⊎_, inl, inr}
 use native.Mathlib.Omega.{arith}
@@ -10,32 +10,27 @@ use lib.Dec.{eqb}
 use lib.ListN.{length, getD, set, replicate, length-set, length-replicate, getD-replicate}
 use lib.Seq.{getD-set-other}
 use borrow.Author.Tests.{ne-eqb}
-use Rattle.maps.specs.Sheet.{Sheet, Kind, input, logic, box, node, size, isLogic}
+use Rattle.maps.specs.Sheet.{Sheet, logic, node, size, isLogic}
 use Rattle.maps.specs.Lists.{keep, below}
 use Rattle.maps.specs.Cut.{logicNode, fittingCuts}
-use Rattle.maps.specs.WellFormed.{WellFormed, codeOf}
+use Rattle.maps.specs.WellFormed.{WellFormed}
 use Rattle.maps.proofs.Over.{last-or}
-use Rattle.maps.proofs.Member.{everywhere}
-use Rattle.maps.proofs.Enumerate.{clash, complete, sound}
+use Rattle.maps.proofs.Member.{everywhere, keep-append}
+use Rattle.maps.proofs.Enumerate.{complete, sound}
 use Rattle.maps.proofs.Planned.{ordered}
 use Rattle.sheet.specs.Table.{kindIn, Tabled}
+use Rattle.sheet.proofs.Tables.{logic-code, code-logic, logic-one}
 use Rattle.cut.specs.Question.{codeFor, Asked}
 use Rattle.cut.proofs.Listing.{filled-more}
+use Rattle.cut.proofs.Laws.{succeeded, failed}
+use Rattle.cut.specs.Search.{Ends}
 use Rattle.relax.specs.Settle.{Fitting}
-use Rattle.bound.specs.Lookup.{Ends, Beside}
+use Rattle.bound.specs.Lookup.{Beside}
 use Rattle.bound.specs.Going.{Keeps}
 use Rattle.level.specs.Cuts.{TriedCut, FitTest, Lowest}
 use Rattle.level.proofs.CutRows.{row-beside}
 
 -- ---- the first of the numbers 0, 1, .. that passes a test
-
-keep-append : (p : ℕ → Bool) (xs ys : List ℕ) → keep p (xs ++ ys) ≡ keep p xs ++ keep p ys
-keep-append p [] ys = refl
-keep-append p (x ∷ xs) ys = go (p x) (keep-append p xs ys)
-  where
-    go : (b : Bool) → keep p (xs ++ ys) ≡ keep p xs ++ keep p ys → cond b (x ∷ keep p (xs ++ ys)) (keep p (xs ++ ys)) ≡ cond b (x ∷ keep p xs) (keep p xs) ++ keep p ys
-    go true e = ap (λ (l : List ℕ). x ∷ l) e
-    go false e = e
 
 keep-none : (p : ℕ → Bool) (n : ℕ) → ((u : ℕ) → u < n → p u ≡ false) → keep p (below n) ≡ []
 keep-none p zero h = refl
@@ -57,23 +52,10 @@ keep-first p (suc n) r l h e = go (λ m. keep-first p n r m h e) (last-or r n l)
 
 -- ---- one node
 
-kind-test : (k : Kind) → eqb (codeOf k) 1 ≡ isLogic k
-kind-test input = refl
-kind-test logic = refl
-kind-test (box lat) = refl
-
-not-one : (k : Kind) → (codeOf k ≡ 1 → ⊥) → isLogic k ≡ true → ⊥
-not-one input h e = clash e
-not-one logic h e = h refl
-not-one (box lat) h e = clash e
-
-is-one : (k : Kind) → codeOf k ≡ 1 → isLogic k ≡ true
-is-one k e = sym (kind-test k) ∙ rw e
-
 -- a node that is no logic node
 pub fit-other : (S : Sheet) (graph : List ℕ) (v k : ℕ) (kept : List ℕ) → v < 256 → (kindIn graph v ≡ 1 → ⊥) → FitTest S graph v k kept true
 fit-other S graph v k kept l h =
-    record { test = λ well tabled lt e logic. absurd (not-one (node S v .kind) (λ q. h (tabled .kinds v l ∙ q)) logic) }
+    record { test = λ well tabled lt e logic. absurd (h (tabled .kinds v l ∙ logic-one (node S v .kind) logic)) }
 
 -- the open codes below u are written
 pub record OpenTo (graph code : List ℕ) (v u : ℕ) : Type 0 where
@@ -108,8 +90,8 @@ fit-tried S graph code v k kept r l one below own tried =
           well = well;
           tabled = tabled;
           node = lt;
-          logic = is-one (node S v .kind) (sym (tabled .kinds v l) ∙ one);
-          below = λ u m. below u m ∙ ap (λ (b : Bool). codeFor b true) (ap (λ (x : ℕ). eqb x 1) (tabled .kinds u (omega arith)) ∙ kind-test (node S u .kind));
+          logic = code-logic (node S v .kind) (sym (tabled .kinds v l) ∙ one);
+          below = λ u m. below u m ∙ ap (λ (b : Bool). codeFor b true) (ap (λ (x : ℕ). eqb x 1) (tabled .kinds u (omega arith)) ∙ logic-code (node S u .kind));
           own = own;
         }
 
@@ -154,12 +136,6 @@ has-none S v e h = rw e (go (fittingCuts S v) (λ c m. m))
 
 -- ---- the nodes in turn
 
-met : (A B : Type 0) (b : Bool) → b ≡ true → Ends b A B → A
-met A B b e = subst (λ (t : Bool). Ends t A B) e
-
-unmet : (A B : Type 0) (b : Bool) → b ≡ false → Ends b A B → B
-unmet A B b e = subst (λ (t : Bool). Ends t A B) e
-
 -- a fitting cut of each logic node below v is kept
 pub record KeptTo (S : Sheet) (graph : List ℕ) (n k : ℕ) (kept : List ℕ) (v : ℕ) : Type 0 where
   pub upto : WellFormed S → Tabled S graph → n ≡ size S → k ≡ S .leaves → (u : ℕ) → u < v → logicNode S u ≡ true → Keeps S kept u
@@ -180,7 +156,7 @@ pub kept-more : (S : Sheet) (graph : List ℕ) (n k : ℕ) (kept more : List ℕ
 kept-more S graph n k kept more v r was l b f h =
     record {
       upto = λ well tabled e q u m.
-          go well (h .upto well tabled e q) (met _ _ r was (f .test well tabled (omega arith) q)) u (last-or u v (omega arith));
+          go well (h .upto well tabled e q) (succeeded _ _ r was (f .test well tabled (omega arith) q)) u (last-or u v (omega arith));
     }
   where
     go : WellFormed S → ((u : ℕ) → u < v → logicNode S u ≡ true → Keeps S kept u) → (logicNode S v ≡ true → Keeps S more v)
@@ -194,7 +170,7 @@ lowest-found S graph n k kept more v r was l f h =
     record {
       most = omega arith;
       some = λ well tabled e q m.
-          let t = unmet _ _ r was (f .test well tabled (omega arith) q) in
+          let t = failed _ _ r was (f .test well tabled (omega arith) q) in
           keep-first (lacks S) (size S) v (omega arith) (λ u b. has S kept u well (h .upto well tabled e q u b)) (has-none S v (t .0) (t .1));
       none = λ well tabled e q m. absurd (omega arith);
     }

@@ -8,12 +8,12 @@ use lib.Dec.{eqb}
 use lib.ListN.{length, getD, set}
 use lib.Seq.{getD-set-other}
 use Rattle.maps.specs.Label.{Label, leq, plus, ready, _≼_}
-use Rattle.maps.specs.Sheet.{Sheet, Kind, input, logic, box, isLogic, node, size, latency}
+use Rattle.maps.specs.Sheet.{Sheet, logic, node, size, latency}
 use Rattle.maps.specs.Cut.{cut}
-use Rattle.maps.specs.WellFormed.{codeOf}
 use Rattle.maps.proofs.Order.{leq-true, ≼-leq}
 use Rattle.maps.proofs.Member.{All-at, All-of, All-get}
 use Rattle.sheet.specs.Table.{kindIn, delayIn, latencyIn}
+use Rattle.sheet.proofs.Tables.{logic-code}
 use Rattle.cut.specs.Question.{codeFor, Asked}
 use Rattle.cut.proofs.Listing.{filled-more}
 use Rattle.relax.specs.Settle.{arrives}
@@ -51,11 +51,6 @@ module _ {graph steps levels : List ℕ} {v top : ℕ} {a : Label} {code : List 
 
   pub coded-all : {u : ℕ} → v ≤ u → Coded graph steps levels v top a code u → CodesBy graph steps levels code v top a
   coded-all l h = record { below = λ i m. h .done i (omega arith); own = h .own }
-
-logic-code : (k : Kind) → eqb (codeOf k) 1 ≡ isLogic k
-logic-code input = refl
-logic-code logic = refl
-logic-code (box lat) = refl
 
 module _ {S : Sheet} {graph : List ℕ} {v k top : ℕ} (placed : Placed S graph v k top) where
   pub placed-in : v < 256

@@ -11,6 +11,7 @@ use Rattle.maps.specs.Lists.{All}
 use Rattle.maps.specs.Cut.{cut}
 use Rattle.maps.proofs.Member.{All-of, All-get}
 use Rattle.maps.proofs.Planned.{ordered}
+use Rattle.maps.proofs.UsedNodes.{leaf-below}
 use Rattle.sheet.specs.Table.{delayIn}
 use Rattle.relax.specs.Guard.{Forced}
 use Rattle.bound.specs.Lookup.{labelIn, arrivalIn, Soon, keptCount, keptLeaf, Beside}
@@ -19,7 +20,7 @@ use Rattle.bound.specs.Going.{Keeps}
 use Rattle.level.specs.Carry.{Leaves, Placed, Arrive, Between}
 use Rattle.level.specs.Span.{TriedLevel, Narrowed, Levelled}
 use Rattle.relax.proofs.Closed.{well-closed}
-use Rattle.relax.proofs.Forced.{leaf-below, forced-level}
+use Rattle.relax.proofs.Forced.{forced-level}
 use Rattle.level.proofs.LevelCodes.{placed-in}
 
 logic-kind : (k : Kind) → isLogic k ≡ true → k ≡ logic

@@ -10,8 +10,9 @@ use Rattle.maps.specs.WellFormed.{WellFormed}
 use Rattle.maps.specs.Outcome.{cutless}
 use Rattle.sheet.specs.Table.{Tabled}
 use Rattle.cut.specs.Question.{AllowedCut}
+use Rattle.cut.specs.Search.{Ends}
 use Rattle.relax.specs.Settle.{Fitting}
-use Rattle.bound.specs.Lookup.{Ends, keptCount, keptLeaf, Row, Beside}
+use Rattle.bound.specs.Lookup.{keptCount, keptLeaf, Row, Beside}
 use Rattle.bound.specs.Going.{Keeps, AllKept}
 
 -- the first count numbers of cut stand in the row of v, and every other row is as it was

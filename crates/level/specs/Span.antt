@@ -4,9 +4,10 @@ use mathlib.Core.Bool.{Bool}
 use mathlib.Core.List.{List}
 use Rattle.maps.specs.Label.{Label, label}
 use Rattle.maps.specs.Sheet.{Sheet}
+use Rattle.cut.specs.Search.{Ends}
 use Rattle.relax.specs.Guard.{Forced}
 use Rattle.relax.specs.Settle.{CutBy}
-use Rattle.bound.specs.Lookup.{Ends, labelIn, Beside}
+use Rattle.bound.specs.Lookup.{labelIn, Beside}
 use Rattle.bound.specs.Going.{Keeps}
 use Rattle.level.specs.Carry.{Placed, Arrive, Between}
 

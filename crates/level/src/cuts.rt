@@ -1,16 +1,13 @@
 // Fitting cuts and the cuts that are kept: eight numbers a node, the count, then the leaves.
 ghost use mathlib.Core.Path.{_≡_};
 ghost use mathlib.Core.Bool.{Bool, true, false};
-ghost use mathlib.Core.List.{List};
-ghost use mathlib.Core.Logic.{_⊎_};
 ghost use Prim.Native.Nat.{ℕ, _+_, _*_, _<_, _≤_};
 ghost use lib.Dec.{eqb};
 ghost use lib.ListN.{getD, length};
 ghost use Rattle.maps.specs.Sheet.{Sheet};
-ghost use Rattle.maps.specs.WellFormed.{WellFormed};
-ghost use Rattle.sheet.specs.Table.{kindIn, Falling, Tabled};
+ghost use Rattle.sheet.specs.Table.{kindIn, Falling};
 ghost use Rattle.cut.specs.Question.{codeFor, Asked};
-ghost use Rattle.bound.specs.Lookup.{keptCount, keptLeaf, Beside};
+ghost use Rattle.bound.specs.Lookup.{Beside};
 ghost use Rattle.level.specs.Cuts.{Stored, TriedCut, FitTest, Lowest};
 use cut::ask;
 use cut::code_for;

@@ -19,6 +19,7 @@ use Rattle.maps.proofs.Order.{leq-true, ≼-leq}
 use Rattle.maps.proofs.Member.{All-map, All-at, All-of, All-get}
 use Rattle.maps.proofs.Planned.{ordered}
 use Rattle.maps.proofs.Chosen.{chosen-is, chosen-same}
+use Rattle.maps.proofs.UsedNodes.{leaf-below}
 use Rattle.sheet.specs.Table.{delayIn}
 use Rattle.sheet.specs.declared.reader.Header as R
 use Rattle.cut.specs.Question.{AllowedCut, Fewest, Best}
@@ -26,7 +27,7 @@ use Rattle.relax.specs.Settle.{arrives}
 use Rattle.bound.specs.Lookup.{labelIn, labelsIn, arrivalIn}
 use Rattle.level.specs.Carry.{Placed}
 use Rattle.level.specs.Cuts.{Stored}
-use Rattle.relax.proofs.Forced.{leaf-read, leaf-below}
+use Rattle.relax.proofs.Forced.{leaf-read}
 use Rattle.level.proofs.LevelCodes.{inTime, arrives-in}
 use Rattle.planner.specs.Cover.{countOf, rowOf}
 use Rattle.planner.specs.Covering.{SoundCount, Written, Laid, Picked}

@@ -20,7 +20,7 @@ use Rattle.maps.specs.Read.{Parsed, sheet, refused, parse}
 use Rattle.maps.specs.WellFormed.{WellFormed}
 use Rattle.maps.specs.Outcome.{Outcome, accepted, refusal, within, timed, cutless, covered, outcome, outcomeNumber, bufferAfter}
 use Rattle.maps.proofs.Over.{and-true}
-use Rattle.maps.proofs.Member.{keep-in, below-in}
+use Rattle.maps.proofs.Member.{keep-in, below-in, keep-append}
 use Rattle.maps.proofs.Enumerate.{clash, complete, sound}
 use Rattle.maps.proofs.Chosen.{chosen-is}
 use Rattle.maps.proofs.UsedNodes.{used-in, used-complete, used-sound}
@@ -31,15 +31,6 @@ use Rattle.planner.specs.Demands.{AllCut, LowestCutless, NoneLegal, Leas
 use Rattle.planner.proofs.Drafts.{legal-carries, refused-outcome, sheet-outcome}
 
 -- ---- the lowest number that passes a test
-
-keep-append : (p : ℕ → Bool) (xs ys : List ℕ) → keep p (xs ++ ys) ≡ keep p xs ++ keep p ys
-keep-append p [] ys = refl
-keep-append p (x ∷ xs) ys = go (p x) (keep-append p xs ys)
-  where
-    go : (b : Bool) → keep p (xs ++ ys) ≡ keep p xs ++ keep p ys
-        → cond b (x ∷ keep p (xs ++ ys)) (keep p (xs ++ ys)) ≡ cond b (x ∷ keep p xs) (keep p xs) ++ keep p ys
-    go true e = ap (λ (l : List ℕ). x ∷ l) e
-    go false e = e
 
 -- a number below n that passes is kept
 kept-fails : (p : ℕ → Bool) (n u : ℕ) → u < n → keep p (below n) ≡ [] → p u ≡ false

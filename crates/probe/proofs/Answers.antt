@@ -4,33 +4,16 @@ use mathlib.Core.Path.{_≡_, refl, sym, subst, ap, _∙_}
 use mathlib.Core.Bool.{Bool, true, false}
 use mathlib.Core.List.{List}
 use native.Mathlib.Omega.{arith}
-use lib.Dec.{eqb}
 use lib.ListN.{take}
-use Rattle.maps.specs.Sheet.{Sheet, Kind, input, logic, box, node, size, isLogic}
+use Rattle.maps.specs.Sheet.{Sheet, logic, node, size}
 use Rattle.maps.specs.Cut.{logicNode}
 use Rattle.maps.specs.Read.{Header, sheet, refused, parse}
-use Rattle.maps.specs.WellFormed.{codeOf}
 use Rattle.maps.proofs.Enumerate.{clash}
 use Rattle.sheet.specs.Table.{kindIn}
 use Rattle.sheet.proofs.After.{Held}
+use Rattle.sheet.proofs.Tables.{logic-code, code-logic, logic-one}
 use Rattle.cut.specs.Question.{AllowedCut, Asked, Fewest, Best}
 use Rattle.probe.specs.Probe.{allowedIn, Coded, Asks, Prepared, Unasked, AnyAnswer, CutAnswer}
-
--- a node is logic exactly if its code is 1
-logic-code : (k : Kind) → eqb (codeOf k) 1 ≡ isLogic k
-logic-code input = refl
-logic-code logic = refl
-logic-code (box lat) = refl
-
-code-logic : (k : Kind) → codeOf k ≡ 1 → isLogic k ≡ true
-code-logic input e = absurd (omega arith)
-code-logic logic e = refl
-code-logic (box lat) e = absurd (omega arith)
-
-logic-one : (k : Kind) → isLogic k ≡ true → codeOf k ≡ 1
-logic-one input e = let z : _≡_ {A = ℕ} 0 1 = cc in absurd (omega arith)
-logic-one logic e = refl
-logic-one (box lat) e = let z : _≡_ {A = ℕ} 0 1 = cc in absurd (omega arith)
 
 -- an id below the header's count is a node of the sheet, and below 256
 module _ {bytes g d : List ℕ} {h : Header} (held : Held bytes g d h) (v : ℕ) (l : v < h .nodes) where

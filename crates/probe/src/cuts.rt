@@ -1,5 +1,5 @@
 // Questions about the cones of a logic node of a sheet whose leaves are all allowed.
-ghost use mathlib.Core.Bool.{Bool, true, false};
+ghost use mathlib.Core.Bool.{true, false};
 ghost use Prim.Native.Nat.{_<_};
 ghost use Rattle.probe.specs.Probe.{Coded, Prepared, AnyAnswer, CutAnswer};
 use sheet::Reading;

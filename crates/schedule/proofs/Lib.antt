@@ -1,7 +1,6 @@
 pub mod Loop
 pub mod Exact
 pub mod HoldMarks
-pub mod TurnTables
 pub mod Rounds
 pub mod Turns
 pub mod TurnNode

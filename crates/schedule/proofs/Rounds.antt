@@ -6,7 +6,7 @@ use mathlib.Core.List.{List, [], _∷_, _++_, foldr, List·Memᴰ}
 use native.Mathlib.Numerals.{add-one}
 use native.Mathlib.Omega.{arith}
 use lib.Dec.{leb}
-use lib.ListN.{length, getD, replicate}
+use lib.ListN.{length, getD}
 use borrow.Author.Tests.{leb-true, leb-false}
 use Rattle.maps.specs.Label.{Label, label, _≼_}
 use Rattle.maps.specs.Lists.{All, below}
@@ -20,10 +20,11 @@ use Rattle.maps.proofs.Fix.{key, label-path, is-least, is-late}
 use Rattle.maps.proofs.Planned.{delays, operands-below, least-right}
 use Rattle.sheet.specs.Table.{latencyIn, operandIn, noDifference, differenceAt, Tabled}
 use Rattle.sheet.specs.declared.reader.Header as R
+use Rattle.cut.specs.Search.{Ends}
 use Rattle.relax.specs.Guard.{Kept}
 use Rattle.relax.specs.Settle.{Pass, Passing}
 use Rattle.relax.specs.Hold.{Holding}
-use Rattle.bound.specs.Lookup.{Ends, labelIn, labelsIn, Linked}
+use Rattle.bound.specs.Lookup.{labelIn, labelsIn, Linked}
 use Rattle.bound.specs.Bound.{HoldsAt}
 use Rattle.bound.specs.Going.{Given, AllKept, Going}
 use Rattle.schedule.specs.Turn.{Nothing}
@@ -34,7 +35,7 @@ use Rattle.relax.proofs.Guard.{legal-node, legal-diffs, ok-legal}
 use Rattle.relax.proofs.Forced.{ok-same}
 use Rattle.relax.proofs.Passes.{pass-start, pass-again, pass-least, pass-floats, Moved, height, height-grows, height-bound}
 use Rattle.schedule.proofs.Loop.{passing-pass, passing-grows, passing-heeds}
-use Rattle.schedule.proofs.TurnTables.{node-in, latency-is, delay-is, difference-in, kept-at, holds-at}
+use Rattle.bound.proofs.Safety.{node-in, latency-is, delay-is, difference-in, kept-at, holds-at}
 
 -- how far the labels have risen, as a sum
 height-sum : (n top : ℕ) (steps levels : List ℕ) → heightIn n top steps levels ≡ total (λ v. key (top + 1) (labelIn steps levels v)) n
@@ -250,12 +251,6 @@ latency-is-most S graph steps levels n few t e =
           ap (λ (a : Label). a .step) (getD-over (labelIn steps levels) (label 0 0) n v l),
           t .latencies v (omega arith),
         )
-
--- the first steps
-pub zeros : (n v : ℕ) → _≡_ {A = ℕ} (getD (replicate n 0) v 0) 0
-zeros zero v = refl
-zeros (suc n) zero = refl
-zeros (suc n) (suc v) = zeros n v
 
 -- what is left to rise
 pub closer : (most h k : ℕ) → h < k → k ≤ most → most - k < most - h

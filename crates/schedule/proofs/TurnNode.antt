@@ -27,7 +27,7 @@ use Rattle.level.specs.Carry.{Placed}
 use Rattle.relax.proofs.Closed.{Closed, well-closed}
 use Rattle.relax.proofs.Forced.{forced-operand}
 use Rattle.relax.proofs.Passes.{base-forced, base-level, settles-from, settles-input, arrives-level}
-use Rattle.schedule.proofs.TurnTables.{node-in, latency-is, delay-is}
+use Rattle.bound.proofs.Safety.{node-in, latency-is, delay-is}
 
 -- a kept cut beside a row that changed is as it was
 pub kept-beside : {S : Sheet} {kept more : List ℕ} {v : ℕ} → WellFormed S → AllKept S kept → length more ≡ 2048 → Beside v kept more → Keeps S more v → AllKept S more

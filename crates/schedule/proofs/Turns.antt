@@ -19,7 +19,7 @@ use Rattle.bound.specs.Going.{AllKept, Timed, Going}
 use Rattle.schedule.specs.Turn.{Nothing}
 use Rattle.relax.proofs.Guard.{legal-node, legal-diffs, guarded-under}
 use Rattle.schedule.proofs.Loop.{raised-tables}
-use Rattle.schedule.proofs.TurnTables.{node-in, latency-is}
+use Rattle.bound.proofs.Safety.{node-in, latency-is}
 
 module _ {S : Sheet} {graph differences : List ℕ} {limits : R.Header} {first next kept steps levels : List ℕ}
     (going : Going S graph differences limits first next kept steps levels) (v : ℕ) (l : v < limits .nodes) (b : Label) where

@@ -8,8 +8,9 @@ use Rattle.maps.specs.Label.{Label}
 use Rattle.maps.specs.Sheet.{Sheet, size}
 use Rattle.maps.specs.Legal.{Legal}
 use Rattle.sheet.specs.declared.reader.Header as R
+use Rattle.cut.specs.Search.{Ends}
 use Rattle.relax.specs.Settle.{Settles, Passing}
-use Rattle.bound.specs.Lookup.{Ends, labelIn}
+use Rattle.bound.specs.Lookup.{labelIn}
 use Rattle.bound.specs.Going.{AllKept, Going}
 
 -- a settles v, and a cut of each logic node is kept

@@ -1,12 +1,11 @@
 // The floating-set test, after a pass: nodes that nothing holds in their step can rise together for ever, so nothing is ever legal.
 // Held are the nodes of step 0, and each node with a held operand less than two steps before it or a held difference without spare steps.
 ghost use mathlib.Core.Path.{_≡_};
-ghost use mathlib.Core.Bool.{Bool, true, false};
+ghost use mathlib.Core.Bool.{true, false};
 ghost use Prim.Native.Nat.{ℕ, _+_, _<_, _≤_};
 ghost use lib.ListN.{getD, length};
-ghost use Rattle.sheet.specs.Table.{countIn, operandIn, latencyIn, fromIn, toIn, plusIn, minusIn, Falling};
-ghost use Rattle.cut.specs.Search.{zeros};
-ghost use Rattle.bound.specs.Lookup.{Ends, Soon};
+ghost use Rattle.sheet.specs.Table.{countIn, Falling};
+ghost use Rattle.bound.specs.Lookup.{Soon};
 ghost use Rattle.bound.specs.Bound.{Summed};
 ghost use Rattle.schedule.specs.Mark.{More, heldIn, Near, HeldOperands, HeldDifference, Marked, HeldAll};
 

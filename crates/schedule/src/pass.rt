@@ -1,15 +1,12 @@
 // A pass: every node in id order gets the least label that its conditions and the present labels force.
-ghost use mathlib.Core.Path.{_≡_};
-ghost use mathlib.Core.List.{List};
 ghost use Prim.Native.Nat.{ℕ, _+_, _<_, _≤_};
-ghost use lib.ListN.{getD};
 ghost use Rattle.maps.specs.Code.{labelOf};
 ghost use Rattle.maps.specs.Sheet.{Sheet};
-ghost use Rattle.sheet.specs.Table.{fromIn, toIn, plusIn, minusIn};
-ghost use Rattle.relax.specs.Settle.{Settles, Pass};
-ghost use Rattle.bound.specs.Lookup.{labelIn, Ends};
+ghost use Rattle.cut.specs.Search.{Ends};
+ghost use Rattle.relax.specs.Settle.{Pass};
+ghost use Rattle.bound.specs.Lookup.{labelIn};
 ghost use Rattle.bound.specs.Bound.{Summed, HoldsAt};
-ghost use Rattle.bound.specs.Going.{AllKept, Going};
+ghost use Rattle.bound.specs.Going.{Going};
 ghost use Rattle.schedule.specs.Turn.{SettledNode, Turned, Passed};
 use bound::latest_arrival;
 use bound::base_label;

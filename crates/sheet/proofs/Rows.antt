@@ -7,6 +7,7 @@ use native.Mathlib.Nat.{not-suc-le-zero, add-zero, zero-add}
 use lib.ListN.{length, getD, set, replicate, length-set, length-map, length-replicate, List·getD-map}
 use lib.Seq.{getD-set-same, getD-set-other}
 use Rattle.maps.specs.Lists.{All}
+use Rattle.maps.proofs.Member.{zeros-at}
 use Rattle.sheet.specs.Table.{storeFrom, storeRows}
 
 store-length : (g : List ℕ) (p : ℕ) (xs : List ℕ) → length (storeFrom g p xs) ≡ length g
@@ -87,9 +88,4 @@ module _ {A : Type 0} (row : A → List ℕ) (k m : ℕ) (xs : List A) (none : A
 
   pub stored-past : (q : ℕ) → length xs * k ≤ q → getD stored q 0 ≡ 0
   stored-past q l =
-      rows-after k (replicate m 0) 0 (map row xs) q (short-rows xs short) (rw (length-map xs row, zero-add) l) ∙ zeros m q
-    where
-      zeros : (n i : ℕ) → getD {A = ℕ} (replicate n 0) i 0 ≡ 0
-      zeros zero i = refl
-      zeros (suc n) zero = refl
-      zeros (suc n) (suc i) = zeros n i
+      rows-after k (replicate m 0) 0 (map row xs) q (short-rows xs short) (rw (length-map xs row, zero-add) l) ∙ zeros-at m q

@@ -5,11 +5,11 @@ use mathlib.Core.Bool.{Bool, true, false}
 use mathlib.Core.List.{List}
 use native.Mathlib.Omega.{arith}
 use native.Mathlib.Nat.{add-zero}
-use lib.Dec.{ltb}
+use lib.Dec.{eqb, ltb}
 use lib.ListN.{length, getD, List·getD-eq-default}
-use borrow.Author.Tests.{ltb-true, ltb-false}
+use borrow.Author.Tests.{eqb-true, ltb-true, ltb-false}
 use Rattle.maps.specs.Lists.{All}
-use Rattle.maps.specs.Sheet.{Sheet, Kind, input, logic, box, Node, noNode, node, size}
+use Rattle.maps.specs.Sheet.{Sheet, Kind, input, logic, box, isLogic, Node, noNode, node, size}
 use Rattle.maps.specs.Read.{rangesOf}
 use Rattle.maps.specs.WellFormed.{Within, codeOf, WellNode, WellFormed}
 use Rattle.maps.proofs.Member.{All-ids, All-get, everywhere}
@@ -102,3 +102,15 @@ falling S g well t =
         go : (b : Bool) → ltb v (size S) ≡ b → length (node S v .operands) ≤ 6
         go true e = few (S .top) v (node S v) (well .nodes v (ltb-true _ _ e))
         go false e = omega (arith, ap (λ (x : Node). length (x .operands)) (List·getD-eq-default (S .nodes) noNode (ltb-false _ _ e)))
+
+-- a node is logic exactly if its code is 1
+pub logic-code : (k : Kind) → eqb (codeOf k) 1 ≡ isLogic k
+logic-code input = refl
+logic-code logic = refl
+logic-code (box lat) = refl
+
+pub code-logic : (k : Kind) → codeOf k ≡ 1 → isLogic k ≡ true
+code-logic k e = sym (logic-code k) ∙ rw e
+
+pub logic-one : (k : Kind) → isLogic k ≡ true → codeOf k ≡ 1
+logic-one k e = eqb-true _ _ (logic-code k ∙ e)

@@ -5,7 +5,6 @@ use native.Mathlib.Omega.{arith}
 use Rattle.maps.specs.Label.{Label, label, later}
 use Rattle.sheet.specs.Table.{delayIn}
 use Rattle.bound.specs.Lookup.{labelIn}
-use Rattle.bound.proofs.Safety.{ids-few}
 use borrow.Author.Needs.{needs}
 use Rattle.bound.proofs.asked.base_label.Statement.{statement}
 use Rattle.bound.proofs.asked.base_label.Tie as tie
@@ -20,7 +19,7 @@ element-copy-out-delay c =
     let s = c .before in
     let a = s .args in
     let going = s .pre .2 in
-    let n = ids-few (s .pre .0) (a .graph .now) (a .differences .now) (a .limits) (going .given) in
+    let n = going .given .well .size .most in
     let l = s .pre .3 in
     let e = going .given .nodes in
     omega arith
@@ -30,7 +29,7 @@ label-of-requires c κs =
     let s = c .before .before in
     let a = s .args in
     let going = s .pre .2 in
-    let n = ids-few (s .pre .0) (a .graph .now) (a .differences .now) (a .limits) (going .given) in
+    let n = going .given .well .size .most in
     let l = s .pre .3 in
     let e = going .given .nodes in
     omega arith
@@ -39,7 +38,7 @@ returns : tie.Need-returns
 returns c = λ S kept going l.
     let a = c .before .before .before .before .args in
     let e = going .given .nodes in
-    let n = ids-few S (a .graph .now) (a .differences .now) (a .limits) (going .given) in
+    let n = going .given .well .size .most in
     let q = c .before .before .before .step-asked in
     let r = q .ensures S kept (a .levels .now) going l in
     record {

@@ -1,6 +1,6 @@
 -- `asked::step_asked` meets its contract: what the tables ask is what the sheet asks.
 use native.Mathlib.Omega.{arith}
-use Rattle.bound.proofs.Safety.{falls, ids-few, soon, summed}
+use Rattle.bound.proofs.Safety.{graph-falls, soon-all, summed-all}
 use Rattle.bound.proofs.Bounds.{asks-tables, asks-small}
 use borrow.Author.Needs.{needs}
 use Rattle.bound.proofs.asked.step_asked.Statement.{statement}
@@ -11,7 +11,7 @@ element-copy-out-own c =
     let s = c in
     let a = s .args in
     let going = s .pre .3 in
-    let n = ids-few (s .pre .0) (a .graph .now) (a .differences .now) (a .limits) (going .given) in
+    let n = going .given .well .size .most in
     let l = s .pre .4 in
     let e = going .given .nodes in
     omega arith
@@ -22,13 +22,13 @@ after-operands-requires c κs =
     let a = s .args in
     let S = s .pre .0 in
     let going = s .pre .3 in
-    let n = ids-few S (a .graph .now) (a .differences .now) (a .limits) (going .given) in
+    let n = going .given .well .size .most in
     let l = s .pre .4 in
     let e = going .given .nodes in (
       omega arith,
       (
-        falls S (a .graph .now) (a .differences .now) (a .limits) (going .given),
-        λ u h. soon S (a .graph .now) (a .differences .now) (a .limits) (going .given) (a .steps .now) (s .pre .2) (going .timed) u (omega arith),
+        graph-falls (going .given),
+        λ u h. soon-all (going .given) (going .timed) u (omega arith),
       ),
     )
 
@@ -38,12 +38,12 @@ after-differences-requires c κs =
     let a = s .args in
     let S = s .pre .0 in
     let going = s .pre .3 in
-    let n = ids-few S (a .graph .now) (a .differences .now) (a .limits) (going .given) in
+    let n = going .given .well .size .most in
     let l = s .pre .4 in
     let e = going .given .nodes in
     let m = going .given .well .count .most in
     let k = going .given .count in
-    ((omega arith, omega arith), (going .linked, summed S (a .graph .now) (a .differences .now) (a .limits) (going .given) (a .steps .now) (s .pre .2) (going .timed)))
+    ((omega arith, omega arith), (going .linked, summed-all (going .given) (going .timed)))
 
 returns : tie.Need-returns
 returns c = λ S kept levels going l.

@@ -1,7 +1,7 @@
 -- `labels::least_labels` meets its contract.
 use borrow.Author.Needs.{needs}
 use borrow.Author.Tests.{not-true, not-false}
-use Rattle.schedule.proofs.TurnTables.{few-differences, targets}
+use Rattle.bound.proofs.Safety.{few-differences, targets}
 use Rattle.schedule.proofs.Rounds.{first-going, first-pass, first-late, labels-late, labels-end}
 use Rattle.schedule.proofs.labels.least_labels.Statement.{statement}
 use Rattle.schedule.proofs.labels.least_labels.Tie as tie

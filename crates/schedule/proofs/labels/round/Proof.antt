@@ -1,7 +1,7 @@
 -- `labels::round` meets its contract.
 use borrow.Author.Needs.{needs}
 use borrow.Author.Tests.{not-true, not-false}
-use Rattle.schedule.proofs.TurnTables.{few-nodes, few-differences, graph-falls, soon-all, summed-all}
+use Rattle.bound.proofs.Safety.{few-nodes, few-differences, graph-falls, soon-all, summed-all}
 use Rattle.schedule.proofs.Rounds.{round-least, round-floats, round-again}
 use Rattle.schedule.proofs.labels.round.Statement.{statement}
 use Rattle.schedule.proofs.labels.round.Tie as tie

@@ -7,7 +7,7 @@ use mathlib.Core.Path.{_≡_, refl, _∙_}
 use lib.ListN.{length, getD, length-set}
 use Rattle.sheet.specs.Table.{delayIn, latencyIn}
 use Rattle.cut.proofs.Listing.{filled-more}
-use Rattle.schedule.proofs.Rounds.{zeros}
+use Rattle.maps.proofs.Member.{zeros-at}
 use Rattle.schedule.proofs.labels.start.Statement.{statement}
 use Rattle.schedule.proofs.labels.start.Tie as tie
 
@@ -47,7 +47,7 @@ returns-2 c =
     record {
       steps-wide = refl;
       levels-wide = l .inv .1;
-      steps-zero = zeros 256;
+      steps-zero = zeros-at 256;
       levels-delay = λ v h. l .inv .2 v (omega arith);
       ends = λ v h. l .inv .3 v (omega arith);
     }

@@ -1,7 +1,7 @@
 -- `pass::node_label` meets its contract.
 use borrow.Author.Needs.{needs}
 use native.Mathlib.Omega.{arith}
-use Rattle.schedule.proofs.TurnTables.{node-in, graph-falls, soon-all}
+use Rattle.bound.proofs.Safety.{node-in, graph-falls, soon-all}
 use Rattle.schedule.proofs.TurnNode.{kept-beside, placed, based-level, settles-latest}
 use Rattle.schedule.proofs.pass.node_label.Statement.{statement}
 use Rattle.schedule.proofs.pass.node_label.Tie as tie

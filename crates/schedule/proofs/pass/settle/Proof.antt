@@ -3,7 +3,7 @@ use borrow.Author.Needs.{needs}
 use Prim.Native.Nat.{ℕ, _≤_, _<_}
 use mathlib.Core.Path.{refl, subst}
 use Rattle.maps.specs.Code.{labelOf}
-use Rattle.schedule.proofs.TurnTables.{node-in}
+use Rattle.bound.proofs.Safety.{node-in}
 use Rattle.schedule.proofs.Turns.{turn-late, turn-going}
 use Rattle.schedule.proofs.pass.settle.Statement.{statement}
 use Rattle.schedule.proofs.pass.settle.Tie as tie
