@@ -41,9 +41,8 @@ fn compare_in(bytes: &[u8], room: usize) -> (u64, u64) {
     (number, place)
 }
 
-/// Compares in several rooms and counts the numbers met: ample, none and, for an accepted sheet, exact, one short and one more. Gives the number
-/// in the ample room.
-fn compare(bytes: &[u8], met: &mut [u32; 9]) -> u64 {
+/// Compares in several rooms and counts the numbers met: ample, none and, for an accepted sheet, exact, one short and one more.
+fn compare(bytes: &[u8], met: &mut [u32; 9]) {
     let (number, place) = compare_in(bytes, 5000);
     met[number as usize] += 1;
     met[compare_in(bytes, 0).0 as usize] += 1;
@@ -54,7 +53,18 @@ fn compare(bytes: &[u8], met: &mut [u32; 9]) -> u64 {
             met[expected as usize] += 1;
         }
     }
-    number
+}
+
+/// Compares on as many sheets as `rounds`, which `bytes` makes from the seed and the round, and counts the numbers met.
+fn compare_all(seed: u64, rounds: u32, mut bytes: impl FnMut(&mut Random, u32) -> Vec<u8>) -> [u32; 9] {
+    println!("seed {seed}");
+    let mut random = Random::new(seed);
+    let mut met = [0; 9];
+    for round in 0..rounds {
+        compare(&bytes(&mut random, round), &mut met);
+    }
+    println!("calls by number: {met:?}");
+    met
 }
 
 /// What a made-up small sheet is drawn from: the greatest number of nodes, T, H and latency, and whether tables read many inputs.
@@ -138,66 +148,54 @@ fn stairs(random: &mut Random) -> Sheet {
 
 #[test]
 fn sheets_with_stairs() {
-    println!("seed {}", SEED + 6);
-    let mut random = Random::new(SEED + 6);
-    let mut met = [0; 9];
-    for _ in 0..20000 {
-        compare(&spelled(&numbers(&stairs(&mut random))), &mut met);
-    }
-    println!("calls by number: {met:?}");
+    let met = compare_all(SEED + 6, 20000, |random, _| spelled(&numbers(&stairs(random))));
     assert!(met[0] > 5000 && met[7] > 5000, "{met:?}");
 }
 
 #[test]
 fn small_sheets() {
-    println!("seed {SEED}");
-    let mut random = Random::new(SEED);
-    let mut met = [0; 9];
-    for round in 0..24000 {
+    let met = compare_all(SEED, 24000, |random, round| {
         let size = match round % 8 {
             0 => Size { nodes: 13, top: 4, horizon: 30, latency: 3, wide: false },
             1 => Size { nodes: 10, top: 64, horizon: 4095, latency: 255, wide: false },
             2 => Size { nodes: 10, top: 1, horizon: 8, latency: 2, wide: false },
             wide => Size { nodes: 9, top: 3, horizon: 6, latency: 3, wide: wide > 5 },
         };
-        compare(&spelled(&numbers(&small(&mut random, &size))), &mut met);
-    }
-    println!("calls by number: {met:?}");
+        spelled(&numbers(&small(random, &size)))
+    });
     assert!([0, 6, 7, 8].iter().all(|&number| met[number] > 4000), "{met:?}");
 }
 
 #[test]
 fn damaged_sheets() {
-    println!("seed {}", SEED + 1);
-    let mut random = Random::new(SEED + 1);
-    let mut met = [0; 9];
-    for round in 0..30000 {
-        let whole = small(&mut random, &Size { nodes: 7, top: 3, horizon: 6, latency: 3, wide: round % 3 == 0 });
-        compare(&damaged(&mut random, &whole), &mut met);
-    }
-    println!("calls by number: {met:?}");
+    let met = compare_all(SEED + 1, 30000, |random, round| {
+        let whole = small(random, &Size { nodes: 7, top: 3, horizon: 6, latency: 3, wide: round % 3 == 0 });
+        damaged(random, &whole)
+    });
     assert!(met.iter().all(|&count| count > 500), "{met:?}");
+}
+
+/// A few small bytes behind a header whose values are mostly in range, with some bytes of any value.
+fn mostly_small(random: &mut Random) -> Vec<u8> {
+    let length = random.within(0, 24);
+    let mut bytes: Vec<u8> = (0..length).map(|_| if random.once_in(16) { random.next() as u8 } else { random.within(0, 2) as u8 / 2 }).collect();
+    for (byte, value) in bytes.iter_mut().zip([random.within(2, 6), 2, 4, random.within(1, 3), random.within(0, 1)]) {
+        if !random.once_in(16) {
+            *byte = value as u8;
+        }
+    }
+    bytes
 }
 
 #[test]
 fn random_bytes() {
-    println!("seed {}", SEED + 2);
-    let mut random = Random::new(SEED + 2);
-    let mut met = [0; 9];
-    for _ in 0..60000 {
-        let length = random.within(0, 24);
-        let mut bytes: Vec<u8> = (0..length).map(|_| if random.once_in(16) { random.next() as u8 } else { random.within(0, 2) as u8 / 2 }).collect();
-        for (byte, value) in bytes.iter_mut().zip([random.within(2, 6), 2, 4, random.within(1, 3), random.within(0, 1)]) {
-            if !random.once_in(16) {
-                *byte = value as u8;
-            }
-        }
-        // Brute force plans only small sheets.
+    // Brute force plans only small sheets.
+    let met = compare_all(SEED + 2, 60000, |random, _| loop {
+        let bytes = mostly_small(random);
         if maps_tests::reader::read(&bytes).map_or(true, |sheet| sheet.nodes.len() < 13) {
-            compare(&bytes, &mut met);
+            break bytes;
         }
-    }
-    println!("calls by number: {met:?}");
+    });
     assert!((0..6).all(|number| met[number] > 200), "{met:?}");
 }
 

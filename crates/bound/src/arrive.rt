@@ -76,19 +76,19 @@ pub fn arrival(
 }
 
 // The least level of step s by which a has come, or top + 1.
-pub fn level_in(a: Label, s: u32, top: u32) -> u32
+pub fn level_in(a: Label, s: Step, top: u32) -> u32
     requires { ⌜ top < 4294967295 ⌝ }
-    ensures { λ r. ⌜ Carrying top s 1 (λ j. labelOf a) r ⌝ }
+    ensures { λ r. ⌜ Carrying top (s .0) 1 (λ j. labelOf a) r ⌝ }
 {
     let start = Label {
-        step: Step(s),
+        step: s,
         level: Level(0),
     };
     if a.at_most(start) {
         return 0;
     }
     let end = Label {
-        step: Step(s),
+        step: s,
         level: Level(top),
     };
     if a.at_most(end) {

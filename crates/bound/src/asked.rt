@@ -118,14 +118,15 @@ pub fn step_asked(
     next: &[u32; 1024],
     steps: &[u32; 256],
     v: u32,
-) -> u32
+) -> Step
     requires { ⌜ ((S : Sheet) × (kept : List ℕ) × (levels : List ℕ) × Going S (now graph) (now differences) limits (now first) (now next) kept (now steps) levels × (v < limits .nodes)) ⌝ }
     ensures { λ r. ⌜ ((S : Sheet) (kept levels : List ℕ) → Going S (now (graph .entry)) (now (differences .entry)) limits (now (first .entry)) (now (next .entry)) kept (now (steps .entry)) levels → v < limits .nodes
-        → Asks S (labelIn (now (steps .entry)) levels) v r × (r < 4294967295)) ⌝ }
+        → Asks S (labelIn (now (steps .entry)) levels) v (r .0) × (r .0 < 4294967295)) ⌝ }
 {
     let own = steps[v as usize];
     let s = after_operands(graph, steps, v, own);
-    after_differences(differences, first, next, steps, limits.differences, v, s)
+    let most = after_differences(differences, first, next, steps, limits.differences, v, s);
+    Step(most)
 }
 
 // The later of v's own label and its delay in the step asked.
@@ -146,7 +147,7 @@ pub fn base_label(
     let s = step_asked(graph, differences, limits, first, next, steps, v);
     let delay = graph[v as usize * 12 + 2];
     let asked = Label {
-        step: Step(s),
+        step: s,
         level: Level(delay),
     };
     later_of(label_of(steps, levels, v), asked)

@@ -170,22 +170,6 @@ fn augment(
     got
 }
 
-// The fewest leaves of an allowed cut of v; k + 1 where every allowed cut has more than k, or there is none.
-pub fn fewest(
-    graph: &[u32; 3072],
-    code: &[u8; 256],
-    seen: &mut [u8; 512],
-    above: &mut [u32; 256],
-    v: u32,
-    k: u32,
-) -> u32
-    requires { ⌜ Falling (now graph) ⌝ }
-    requires { ⌜ (v < 256) × (k < 256) ⌝ }
-    ensures { λ r. ⌜ ((S : Sheet) (may : ℕ → Bool) → Asked S may v (now (graph .entry)) (now (code .entry)) → Fewest S may v k r) ⌝ }
-{
-    augment(graph, code, seen, above, v, k)
-}
-
 // Copies a into b.
 fn copy_marks(a: &[u8], b: &mut [u8])
     requires { ⌜ length (now b) ≡ length (now a) ⌝ }

@@ -15,10 +15,10 @@ ghost use Rattle.bound.specs.Bound.{Carrying};
 ghost use Rattle.bound.specs.Going.{Keeps, Based};
 ghost use Rattle.level.specs.Carry.{Leaves, CodesBy, Placed};
 ghost use Rattle.level.specs.Span.{TriedLevel, Narrowed, Levelled};
+use crate::cuts::try_cut;
 use bound::arrival;
 use bound::greater;
 use bound::level_in;
-use crate::cuts::try_cut;
 use cut::code_for;
 use maps::Label;
 use maps::Level;
@@ -39,11 +39,11 @@ pub fn carried(
     kept: &[u32; 2048],
     v: u32,
     top: u32,
-    s: u32,
+    s: Step,
 ) -> u32
     requires { ⌜ Leaves (now graph) (now steps) (now kept) v ⌝ }
     requires { ⌜ top < 4294967295 ⌝ }
-    ensures { λ r. ⌜ Carrying top s (keptCount (now (kept .entry)) v) (λ j. arrivalIn (now (graph .entry)) (now (steps .entry)) (now (levels .entry)) top (delayIn (now (graph .entry)) v) (keptLeaf (now (kept .entry)) v j)) r ⌝ }
+    ensures { λ r. ⌜ Carrying top (s .0) (keptCount (now (kept .entry)) v) (λ j. arrivalIn (now (graph .entry)) (now (steps .entry)) (now (levels .entry)) top (delayIn (now (graph .entry)) v) (keptLeaf (now (kept .entry)) v j)) r ⌝ }
 {
     let delay = graph[v as usize * 12 + 2];
     let base = v as usize * 8;
@@ -101,7 +101,7 @@ pub fn codes(
     }
 }
 
-// Seeks a fitting cut of v that carries level l of step s, and keeps it.
+// Seeks a fitting cut of v that carries a label, and keeps it.
 pub fn try_level(
     graph: &[u32; 3072],
     steps: &[u32; 256],
@@ -114,22 +114,17 @@ pub fn try_level(
     v: u32,
     k: u32,
     top: u32,
-    s: u32,
-    l: u32,
+    by: Label,
 ) -> bool
     requires { ⌜ Falling (now graph) ⌝ }
     requires { ⌜ (v < 256) × (k ≤ 7) ⌝ }
     requires { ⌜ ((u : ℕ) → u < v → Soon (now graph) (now steps) u) ⌝ }
     requires { ⌜ length (now kept) ≡ 2048 ⌝ }
-    ensures { λ r. ⌜ ((S : Sheet) → Placed S (now (graph .entry)) v k top → TriedLevel S (now (graph .entry)) (now (steps .entry)) (now (levels .entry)) (now (kept .exit)) v top (label s l) r) ⌝ }
+    ensures { λ r. ⌜ ((S : Sheet) → Placed S (now (graph .entry)) v k top → TriedLevel S (now (graph .entry)) (now (steps .entry)) (now (levels .entry)) (now (kept .exit)) v top (labelOf by) r) ⌝ }
     ensures { λ r. ⌜ Beside v (now (kept .entry)) (now (kept .exit)) ⌝ }
     ensures { λ r. ⌜ length (now (kept .exit)) ≡ 2048 ⌝ }
     ensures { λ r. ⌜ (r ≡ false → now (kept .exit) ≡ now (kept .entry)) ⌝ }
 {
-    let by = Label {
-        step: Step(s),
-        level: Level(l),
-    };
     codes(graph, steps, levels, code, v, top, by);
     try_cut(graph, code, kept, seen, above, cut, v, k)
 }
@@ -159,7 +154,7 @@ pub fn wider(stride: u32) -> u32
     stride * 2
 }
 
-// Asks about one level of the span.
+// Asks about one level of the span in step s.
 pub fn narrow(
     graph: &[u32; 3072],
     steps: &[u32; 256],
@@ -172,17 +167,21 @@ pub fn narrow(
     v: u32,
     k: u32,
     top: u32,
-    s: u32,
+    s: Step,
     span: Span,
 ) -> Span
     requires { ⌜ ((S : Sheet) × Placed S (now graph) v k top) ⌝ }
     requires { ⌜ ((u : ℕ) → u < v → Soon (now graph) (now steps) u) ⌝ }
     requires { ⌜ length (now kept) ≡ 2048 ⌝ }
     requires { ⌜ (span .low < span .high) × (span .high ≤ top + 1) ⌝ }
-    ensures { λ r. ⌜ Narrowed (now (graph .entry)) (now (steps .entry)) (now (levels .entry)) (now (kept .entry)) (now (kept .exit)) v k top s (span .low) (span .high) (r .low) (r .high) ⌝ }
+    ensures { λ r. ⌜ Narrowed (now (graph .entry)) (now (steps .entry)) (now (levels .entry)) (now (kept .entry)) (now (kept .exit)) v k top (s .0) (span .low) (span .high) (r .low) (r .high) ⌝ }
     ensures { λ r. ⌜ length (now (kept .exit)) ≡ 2048 ⌝ }
 {
     let l = between(span);
+    let by = Label {
+        step: s,
+        level: Level(l),
+    };
     if !try_level(
         graph,
         steps,
@@ -195,8 +194,7 @@ pub fn narrow(
         v,
         k,
         top,
-        s,
-        l,
+        by,
     ) {
         return Span {
             low: l + 1,
@@ -212,7 +210,7 @@ pub fn narrow(
     }
 }
 
-// The least level from low on that a fitting cut of v carries in step s, or top + 1; the cut is kept.
+// The least level from base on that a fitting cut of v carries in base's step, or top + 1; the cut is kept.
 pub fn least_level(
     graph: &[u32; 3072],
     steps: &[u32; 256],
@@ -225,16 +223,18 @@ pub fn least_level(
     v: u32,
     k: u32,
     top: u32,
-    s: u32,
-    low: u32,
+    base: Label,
 ) -> u32
     requires { ⌜ ((S : Sheet) × Placed S (now graph) v k top × Keeps S (now kept) v) ⌝ }
     requires { ⌜ ((u : ℕ) → u < v → Soon (now graph) (now steps) u) ⌝ }
     requires { ⌜ length (now kept) ≡ 2048 ⌝ }
-    requires { ⌜ low ≤ top + 1 ⌝ }
-    ensures { λ r. ⌜ Levelled (now (graph .entry)) (now (steps .entry)) (now (levels .entry)) (now (kept .entry)) (now (kept .exit)) v k top s low r ⌝ }
+    requires { ⌜ base .level .0 ≤ top + 1 ⌝ }
+    ensures { λ r. ⌜ Levelled (now (graph .entry)) (now (steps .entry)) (now (levels .entry)) (now (kept .entry)) (now (kept .exit)) v k top (base .step .0) (base .level .0) r ⌝ }
     ensures { λ r. ⌜ length (now (kept .exit)) ≡ 2048 ⌝ }
 {
+    let s = base.step;
+    let from = base.level;
+    let low = from.0;
     let most = carried(graph, steps, levels, kept, v, top, s);
     let mut span = Span {
         low,
@@ -285,8 +285,6 @@ pub fn table_label(
     ensures { λ r. ⌜ Beside v (now (kept .entry)) (now (kept .exit)) ⌝ }
     ensures { λ r. ⌜ length (now (kept .exit)) ≡ 2048 ⌝ }
 {
-    let step = base.step;
-    let low = base.level;
     let l = least_level(
         graph,
         steps,
@@ -299,9 +297,9 @@ pub fn table_label(
         v,
         k,
         top,
-        step.0,
-        low.0,
+        base,
     );
+    let step = base.step;
     if l <= top {
         return Label {
             step,

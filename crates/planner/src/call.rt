@@ -15,10 +15,10 @@ ghost use Rattle.planner.specs.Cover.{Labelled};
 ghost use Rattle.planner.specs.Call.{Made, Short, madeMeant, plannedNumber, plannedPlace};
 use crate::bytes::write_plan;
 use crate::covering::cover;
+use level::lowest_cutless;
 use maps::Refusal;
 use schedule::latency;
 use schedule::least_labels;
-use level::lowest_cutless;
 use sheet::Header;
 use sheet::Reading;
 use sheet::read_sheet;
@@ -53,7 +53,7 @@ pub fn plan_labels(
     let mut cuts = [0u32; 2048];
     let last = latency(graph, steps, limits.nodes);
     cover(graph, limits, steps, levels, &mut used, &mut cuts);
-    write_plan(last, limits.nodes, steps, levels, &used, &cuts, bytes)
+    write_plan(last.0, limits.nodes, steps, levels, &used, &cuts, bytes)
 }
 
 // Plans the sheet in the tables, where `kept` has a fitting cut of each logic node.

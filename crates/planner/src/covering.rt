@@ -13,10 +13,10 @@ ghost use Rattle.sheet.specs.Table.{countIn, Falling};
 ghost use Rattle.bound.specs.Lookup.{Soon, labelsIn};
 ghost use Rattle.planner.specs.Cover.{Labelled, Covered, Rows, countOf, rowOf};
 ghost use Rattle.planner.specs.Covering.{usedIn, part, MarkedAll, SoundCount, Written, Laid, Picked, Going};
+use bound::label_of;
 use cut::choose;
 use level::codes;
 use level::keep_cut;
-use bound::label_of;
 use sheet::Header;
 
 // Whether v is used: an output, a box, or marked already.

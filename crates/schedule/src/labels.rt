@@ -12,12 +12,14 @@ ghost use Rattle.relax.specs.Settle.{Pass};
 ghost use Rattle.bound.specs.Lookup.{labelIn, labelsIn, Soon};
 ghost use Rattle.bound.specs.Going.{Given, AllKept, Going};
 ghost use Rattle.schedule.specs.Round.{Started, RoundEnds, Relaxed};
-use bound::greater;
-use bound::link;
 use crate::float::floats;
-use level::wider;
 use crate::pass::differences_hold;
 use crate::pass::pass;
+use bound::greater;
+use bound::link;
+use level::wider;
+use maps::Label;
+use maps::Step;
 use sheet::Header;
 
 // What a round comes to.
@@ -27,7 +29,7 @@ pub enum Turn {
     Again,
 }
 
-// The first labels: step 0 and each node's delay. False where a latency alone is past the horizon.
+// The first labels: the earliest, with each node's delay as level. False where a latency alone is past the horizon.
 pub fn start(
     graph: &[u32; 3072],
     steps: &mut [u32; 256],
@@ -38,8 +40,11 @@ pub fn start(
     requires { ⌜ n ≤ 256 ⌝ }
     ensures { λ r. ⌜ Started (now (graph .entry)) (now (steps .exit)) (now (levels .exit)) n horizon r ⌝ }
 {
-    *steps = [0; 256];
-    *levels = [0; 256];
+    let first = Label::earliest();
+    let step = first.step;
+    let level = first.level;
+    *steps = [step.0; 256];
+    *levels = [level.0; 256];
     let mut v: usize = 0;
     while v < n as usize {
         if graph[v * 12 + 3] > horizon {
@@ -204,10 +209,10 @@ pub fn least_labels(
 }
 
 // The greatest step among the ready labels of n nodes.
-pub fn latency(graph: &[u32; 3072], steps: &[u32; 256], n: u32) -> u32
+pub fn latency(graph: &[u32; 3072], steps: &[u32; 256], n: u32) -> Step
     requires { ⌜ n ≤ 256 ⌝ }
     requires { ⌜ ((u : ℕ) → u < n → Soon (now graph) (now steps) u) ⌝ }
-    ensures { λ r. ⌜ ((S : Sheet) (levels : List ℕ) → Tabled S (now (graph .entry)) → n ≡ size S → r ≡ latencyOfAll S (at (labelsIn n (now (steps .entry)) levels))) ⌝ }
+    ensures { λ r. ⌜ ((S : Sheet) (levels : List ℕ) → Tabled S (now (graph .entry)) → n ≡ size S → r .0 ≡ latencyOfAll S (at (labelsIn n (now (steps .entry)) levels))) ⌝ }
 {
     let mut most: u32 = 0;
     let mut v: usize = 0;
@@ -216,5 +221,5 @@ pub fn latency(graph: &[u32; 3072], steps: &[u32; 256], n: u32) -> u32
         most = greater(most, ready);
         v += 1;
     }
-    most
+    Step(most)
 }

@@ -141,32 +141,35 @@ fn running(random: &mut Random, n: u32) -> Sheet {
     sheet
 }
 
-/// The least time of a few runs, in microseconds, and the number given.
-fn time(call: &Call, bytes: &[u8]) -> (f64, u64) {
+/// How often each call plans a sheet.
+const RUNS: u32 = 9;
+
+/// For each call the least time of its runs, in microseconds, and the number given. The calls take turns, so that all meet the same machine.
+fn times(calls: &[Call], bytes: &[u8]) -> Vec<(f64, u64)> {
     let mut buffer = vec![0; 5000];
-    let (mut best, mut number) = (f64::INFINITY, 0);
-    for _ in 0..5 {
-        let start = Instant::now();
-        number = (call.1)(std::hint::black_box(bytes), std::hint::black_box(&mut buffer)).0;
-        best = best.min(start.elapsed().as_secs_f64() * 1e6);
+    let mut best = vec![(f64::INFINITY, 0); calls.len()];
+    for _ in 0..RUNS {
+        for (call, least) in calls.iter().zip(&mut best) {
+            let start = Instant::now();
+            least.1 = (call.1)(std::hint::black_box(bytes), std::hint::black_box(&mut buffer)).0;
+            least.0 = least.0.min(start.elapsed().as_secs_f64() * 1e6);
+        }
     }
-    (best, number)
+    best
 }
 
-/// One line: mean and worst of each call over these sheets, and how many are accepted, refused 6 and refused 7.
+/// One line: how many sheets are accepted, refused 6 and refused 7, then mean and worst of each call, and the ratio of the means to the last call's.
 fn row(name: &str, sheets: &[Vec<u8>]) {
-    print!("{name:<34}");
-    for (i, call) in calls().iter().enumerate() {
-        let times: Vec<(f64, u64)> = sheets.iter().map(|bytes| time(call, bytes)).collect();
-        let mean = times.iter().map(|t| t.0).sum::<f64>() / times.len() as f64;
-        let worst = times.iter().fold(0.0, |most, t| f64::max(most, t.0));
-        if i == 0 {
-            let count = |number| times.iter().filter(|t| t.1 == number).count();
-            print!("{:>4} {:>4} {:>4}", count(0), count(6), count(7));
-        }
-        print!("{:>13} {mean:>9.1} {worst:>9.1} us", call.0);
+    let calls = calls();
+    let all: Vec<Vec<(f64, u64)>> = sheets.iter().map(|bytes| times(&calls, bytes)).collect();
+    let count = |number| all.iter().filter(|t| t[0].1 == number).count();
+    let mean = |i: usize| all.iter().map(|t| t[i].0).sum::<f64>() / all.len() as f64;
+    print!("{name:<34}{:>4} {:>4} {:>4}", count(0), count(6), count(7));
+    for (i, call) in calls.iter().enumerate() {
+        let worst = all.iter().fold(0.0, |most, t| f64::max(most, t[i].0));
+        print!("{:>13} {:>9.1} {worst:>9.1} us", call.0, mean(i));
     }
-    println!();
+    println!("{:>8.2}", mean(0) / mean(calls.len() - 1));
 }
 
 fn main() {

@@ -9,20 +9,20 @@ returns : tie.Need-returns
 returns c =
     let a = c .before .before .args in
     let e = c .before .at-most in
-    level-first (labelOf (a .a)) (a .s) (a .top) (e .result) (e .ensures) (c .if1 .taken)
+    level-first (labelOf (a .a)) (a .s .0) (a .top) (e .result) (e .ensures) (c .if1 .taken)
 
 returns-2 : tie.Need-returns-2
 returns-2 c =
     let a = c .before .before .before .before .before .args in
     let e = c .before .before .before .before .at-most in
     let f = c .before .before .at-most2 in
-    level-own (labelOf (a .a)) (a .s) (a .top) (e .result) (e .ensures) (c .before .before .before .if1 .left) (f .result) (f .ensures) (c .before .if2 .taken)
+    level-own (labelOf (a .a)) (a .s .0) (a .top) (e .result) (e .ensures) (c .before .before .before .if1 .left) (f .result) (f .ensures) (c .before .if2 .taken)
 
 returns-3 : tie.Need-returns-3
 returns-3 c =
     let a = c .before .before .before .before .args in
     let f = c .before .at-most2 in
-    level-past (labelOf (a .a)) (a .s) (a .top) (f .result) (f .ensures) (c .if2 .left)
+    level-past (labelOf (a .a)) (a .s .0) (a .top) (f .result) (f .ensures) (c .if2 .left)
 
 pub level-in-spec : {M : Type 1} → statement M
 level-in-spec =

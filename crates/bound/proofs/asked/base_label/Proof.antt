@@ -42,11 +42,11 @@ returns c = λ S kept going l.
     let q = c .before .before .before .step-asked in
     let r = q .ensures S kept (a .levels .now) going l in
     record {
-      step = q .result;
+      step = q .result .0;
       asks = r .0;
       fits = r .1;
-      base = c .later-of .ensures ∙ ap (λ (b : Label). later b (label (q .result) (delayIn (a .graph .now) (a .v)))) (c .before .label-of .ensures)
-          ∙ ap (λ (d : ℕ). later (labelIn (a .steps .now) (a .levels .now) (a .v)) (label (q .result) d)) (going .given .tabled .delays (a .v) (omega arith));
+      base = c .later-of .ensures ∙ ap (λ (b : Label). later b (label (q .result .0) (delayIn (a .graph .now) (a .v)))) (c .before .label-of .ensures)
+          ∙ ap (λ (d : ℕ). later (labelIn (a .steps .now) (a .levels .now) (a .v)) (label (q .result .0) d)) (going .given .tabled .delays (a .v) (omega arith));
     }
 
 pub base-label-spec : {M : Type 1} → statement M

@@ -13,13 +13,13 @@ use Rattle.level.proofs.level.carried.Tie as tie
 
 abbrev Inv-loop : tie.InvT-loop
 Inv-loop graph steps levels kept v top s delay base count most₀ j₀ most j =
-    (j ≤ keptCount kept v) × Carrying top s j (arrivalOf graph steps levels kept v top) most
+    (j ≤ keptCount kept v) × Carrying top (s .0) j (arrivalOf graph steps levels kept v top) most
 
 abbrev μ-loop : tie.MeasureT-loop
 μ-loop graph steps levels kept v top s delay base count most₀ j₀ most j = count - j
 
 loop-holds : tie.Need-loop-holds Inv-loop μ-loop
-loop-holds c = let s = c .before .before in (search needs, carrying-none (s .args .top) (s .args .s) _)
+loop-holds c = let s = c .before .before in (search needs, carrying-none (s .args .top) (s .args .s .0) _)
 
 arrival-requires : tie.Need-arrival-requires Inv-loop μ-loop
 arrival-requires c κs =
@@ -36,9 +36,9 @@ loop-again c =
     let top = s .args .top in
     let x = c .before .level-in in (
       omega arith,
-      carrying-more top (s .args .s) (l .j) (arrivalOf (s .args .graph .now) (s .args .steps .now) (s .args .levels .now) (s .args .kept .now) (s .args .v) top)
+      carrying-more top (s .args .s .0) (l .j) (arrivalOf (s .args .graph .now) (s .args .steps .now) (s .args .levels .now) (s .args .kept .now) (s .args .v) top)
           (l .most) (x .result) (c .greater .result) (l .inv .1)
-          (subst (λ (a : Label). Carrying top (s .args .s) 1 (λ i. a) (x .result)) (c .before .before .arrival .ensures) (x .ensures))
+          (subst (λ (a : Label). Carrying top (s .args .s .0) 1 (λ i. a) (x .result)) (c .before .before .arrival .ensures) (x .ensures))
           (c .greater .ensures),
     )
 
@@ -48,7 +48,7 @@ returns c =
     let l = c .before .loop in
     let t = c .loop-test .left in
     let e : l .j ≡ keptCount (s .args .kept .now) (s .args .v) = omega (arith, l .inv .0) in
-    subst (λ (n : ℕ). Carrying (s .args .top) (s .args .s) n (arrivalOf (s .args .graph .now) (s .args .steps .now) (s .args .levels .now) (s .args .kept .now) (s .args .v) (s .args .top)) (l .most)) e (l .inv .1)
+    subst (λ (n : ℕ). Carrying (s .args .top) (s .args .s .0) n (arrivalOf (s .args .graph .now) (s .args .steps .now) (s .args .levels .now) (s .args .kept .now) (s .args .v) (s .args .top)) (l .most)) e (l .inv .1)
 
 pub carried-spec : {M : Type 1} → statement M
 carried-spec =

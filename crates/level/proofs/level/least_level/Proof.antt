@@ -10,7 +10,7 @@ use Rattle.level.proofs.level.least_level.Tie as tie
 
 abbrev Inv-loop : tie.InvT-loop
 Inv-loop graph steps levels kept₀ code₀ seen₀ above₀ cut₀ v k top s low most span₀ kept code seen above cut span =
-    (length kept ≡ 2048) × Spanned graph steps levels v k top s kept₀ kept low (span .low) (span .high)
+    (length kept ≡ 2048) × Spanned graph steps levels v k top (s .0) kept₀ kept low (span .low) (span .high)
 
 abbrev μ-loop : tie.MeasureT-loop
 μ-loop graph steps levels kept₀ code₀ seen₀ above₀ cut₀ v k top s low most span₀ kept code seen above cut span =
@@ -18,18 +18,18 @@ abbrev μ-loop : tie.MeasureT-loop
 
 carried-requires : tie.Need-carried-requires Inv-loop μ-loop
 carried-requires c κs =
-    let s = c .before in
+    let s = c .before .before .before in
     let p = s .pre .0 .1 in
     (kept-leaves p (s .pre .0 .2) (s .pre .1 .0), omega (arith, placed-top p))
 
 loop-holds : tie.Need-loop-holds Inv-loop μ-loop
 loop-holds c =
-    let s = c .before .before .before in
+    let s = c .before .before .before .before .before in
     (s .pre .1 .1 .0, spanned-first (s .pre .1 .1 .1) (c .before .carried .ensures) (c .greater .ensures))
 
 narrow-requires : tie.Need-narrow-requires Inv-loop μ-loop
 narrow-requires c κs =
-    let s = c .before .before .before .before .before .before .before .before .before .before .before in
+    let s = c .before .before .before .before .before .before .before .before .before .before .before .before .before in
     let i = c .before .before .before .before .before .before .before .loop .inv in
     ((s .pre .0 .0, s .pre .0 .1), (s .pre .1 .0, (i .0, (c .before .before .before .before .before .if1 .taken, i .1 .most))))
 

@@ -28,7 +28,7 @@ carried-requires c κs =
     let e = c .before .before .try-level in
     let some = not-false (e .result) (c .before .if1 .left) in (
       kept-leaves p
-          (tried-true (s .args .graph .now) (s .args .steps .now) (s .args .levels .now) (s .args .v) (s .args .k) (s .args .top) (s .args .s) (e .last .1 .1 .1 .0) (c .before .before .before .before .before .before .before .before .between .result) (e .result) some (e .ensures .0) (s .pre .0 .0) p .0)
+          (tried-true (s .args .graph .now) (s .args .steps .now) (s .args .levels .now) (s .args .v) (s .args .k) (s .args .top) (s .args .s .0) (e .last .1 .1 .1 .0) (c .before .before .before .before .before .before .before .before .between .result) (e .result) some (e .ensures .0) (s .pre .0 .0) p .0)
           (s .pre .1 .0),
       omega (arith, placed-top p),
     )
@@ -40,7 +40,7 @@ returns-2 c =
     let l = c .before .before .before .before .before .before .before .before .before .before .before .between in
     let some = not-false (e .result) (c .before .before .before .before .if1 .left) in (
       narrowed-down (s .pre .1 .1 .1 .0) (l .ensures .1) (s .pre .1 .1 .1 .1) (c .before .before .carried .ensures) (c .before .greater .ensures)
-          (tried-true (s .args .graph .now) (s .args .steps .now) (s .args .levels .now) (s .args .v) (s .args .k) (s .args .top) (s .args .s) (e .last .1 .1 .1 .0) (l .result) (e .result) some (e .ensures .0))
+          (tried-true (s .args .graph .now) (s .args .steps .now) (s .args .levels .now) (s .args .v) (s .args .k) (s .args .top) (s .args .s .0) (e .last .1 .1 .1 .0) (l .result) (e .result) some (e .ensures .0))
           (s .pre .0 .0) (s .pre .0 .1) (e .ensures .1 .0),
       e .ensures .1 .1 .0,
     )

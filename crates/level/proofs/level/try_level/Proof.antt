@@ -1,5 +1,5 @@
 -- `level::try_level` meets its contract.
-use Rattle.maps.specs.Label.{label}
+use Rattle.maps.specs.Code.{labelOf}
 use Rattle.level.proofs.LevelCodes.{inTime, asked-by, tried-by}
 use borrow.Author.Needs.{needs}
 use Rattle.level.proofs.level.try_level.Statement.{statement}
@@ -10,7 +10,7 @@ returns c =
     let s = c .before .before .before .before .before .before .before .before in
     let steps = s .args .steps .now in
     let levels = s .args .levels .now in
-    let a = label (s .args .s) (s .args .l) in
+    let a = labelOf (s .args .by) in
     let e = c .try-cut in (
       λ S p.
           tried-by p steps levels a (e .last .1 .1 .0) (e .result)

@@ -3,11 +3,12 @@ use borrow.Author.Needs.{needs}
 use borrow.Author.Count.{below-more}
 use native.Mathlib.Omega.{arith}
 use Prim.Native.Nat.{ℕ, _-_, _≤_, _<_}
-use mathlib.Core.Path.{_≡_, refl, _∙_}
-use lib.ListN.{length, getD, length-set}
+use mathlib.Core.Path.{_≡_, refl, sym, subst, ap, _∙_}
+use lib.ListN.{length, getD, replicate, length-set}
+use Rattle.maps.specs.Label.{Label}
+use Rattle.maps.proofs.Member.{zeros-at}
 use Rattle.sheet.specs.Table.{delayIn, latencyIn}
 use Rattle.cut.proofs.Listing.{filled-more}
-use Rattle.maps.proofs.Member.{zeros-at}
 use Rattle.schedule.proofs.labels.start.Statement.{statement}
 use Rattle.schedule.proofs.labels.start.Tie as tie
 
@@ -31,7 +32,7 @@ loop-again : tie.Need-loop-again Inv-loop μ-loop
 loop-again c =
     let l = c .before .before .before .before .loop in
     let t = c .before .before .before .loop-test .taken in
-    let s = c .before .before .before .before .before .before .before in
+    let s = c .before .before .before .before .before .before .before .before .before .before in
     let n = s .pre in
     let w = l .inv .1 in (
       omega arith,
@@ -44,10 +45,11 @@ returns-2 : tie.Need-returns-2 Inv-loop μ-loop
 returns-2 c =
     let l = c .before .loop in
     let t = c .loop-test .left in
+    let e = c .before .before .before .before .before .before .earliest .ensures in
     record {
       steps-wide = refl;
       levels-wide = l .inv .1;
-      steps-zero = zeros-at 256;
+      steps-zero = λ v. subst (λ (s : ℕ). getD (replicate 256 s) v 0 ≡ 0) (sym (ap (λ (a : Label). a .step) e)) (zeros-at 256 v);
       levels-delay = λ v h. l .inv .2 v (omega arith);
       ends = λ v h. l .inv .3 v (omega arith);
     }
@@ -58,6 +60,7 @@ start-spec =
     (tie.spec
     Inv-loop
     μ-loop
+    (λ c κs. search needs)
     loop-holds
     (λ c. search needs)
     (λ c. search needs)
