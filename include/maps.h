@@ -30,8 +30,8 @@ extern "C" {
  * of 6 leaves). */
 #define MAPS_PLAN_MOST 4354
 
-/* Bytes of stack to give a calling thread: five times the most that was measured, 102,200 over some twenty sheets made for depth. It is a margin and
- * not a proved bound. */
+/* Bytes of stack to give a calling thread: six times the most that was measured, 86,072 over 208 sheets, most of them made for depth. It is a
+ * margin and not a proved bound. */
 #define MAPS_STACK 524288
 
 /* What a call answers. */

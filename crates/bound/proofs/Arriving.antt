@@ -12,9 +12,9 @@ use Rattle.maps.proofs.Order.{≼-refl, ≼-trans, leq-true, ≼-leq, leq-decid
 use Rattle.maps.proofs.Over.{last-or}
 use Rattle.maps.proofs.Fix.{label-path}
 use Rattle.sheet.specs.Table.{latencyIn, delayIn, operandIn}
+use Rattle.relax.proofs.Closed.{ready-step}
 use Rattle.bound.specs.Lookup.{labelIn, arrivalIn, Soon}
 use Rattle.bound.specs.Bound.{Carrying, Latest}
-use Rattle.relax.proofs.Closed.{ready-step}
 
 pub later-taken : (a b : Label) (t : Bool) → t ≡ leq a b → t ≡ true → b ≡ later a b
 later-taken a b t e q = sym (ap (λ (x : Bool). cond x b a) (sym e ∙ q))

@@ -12,10 +12,10 @@ use Rattle.sheet.specs.Table.{countIn, operandIn, latencyIn, fromIn, toIn, plus
 use Rattle.sheet.specs.declared.reader.Header as R
 use Rattle.relax.specs.Guard.{NodeOk, DiffsInto}
 use Rattle.relax.specs.Settle.{Asks}
+use Rattle.relax.proofs.Closed.{Closed, well-closed, inside, ready-step}
 use Rattle.bound.specs.Lookup.{labelIn}
 use Rattle.bound.specs.Bound.{Greatest, readyStep}
 use Rattle.bound.specs.Going.{Given, Timed}
-use Rattle.relax.proofs.Closed.{Closed, well-closed, inside, ready-step}
 use Rattle.bound.proofs.Safety.{graph-falls, soon-all, summed-all}
 
 module _ (S : Sheet) (graph differences : List ℕ) (limits : R.Header) (given : Given S graph differences limits)

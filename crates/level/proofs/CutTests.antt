@@ -21,9 +21,9 @@ use Rattle.maps.proofs.Planned.{ordered}
 use Rattle.sheet.specs.Table.{kindIn, Tabled}
 use Rattle.sheet.proofs.Tables.{logic-code, code-logic, logic-one}
 use Rattle.cut.specs.Question.{codeFor, Asked}
+use Rattle.cut.specs.Search.{Ends}
 use Rattle.cut.proofs.Listing.{filled-more}
 use Rattle.cut.proofs.Laws.{succeeded, failed}
-use Rattle.cut.specs.Search.{Ends}
 use Rattle.relax.specs.Settle.{Fitting}
 use Rattle.bound.specs.Lookup.{Beside}
 use Rattle.bound.specs.Going.{Keeps}

@@ -17,11 +17,11 @@ use Rattle.sheet.proofs.Tables.{logic-code}
 use Rattle.cut.specs.Question.{codeFor, Asked}
 use Rattle.cut.proofs.Listing.{filled-more}
 use Rattle.relax.specs.Settle.{arrives}
+use Rattle.relax.proofs.Forced.{leaf-read}
 use Rattle.bound.specs.Lookup.{labelIn, arrivalIn}
 use Rattle.level.specs.Carry.{CodesBy, Placed}
 use Rattle.level.specs.Cuts.{TriedCut}
 use Rattle.level.specs.Span.{TriedLevel}
-use Rattle.relax.proofs.Forced.{leaf-read}
 
 module _ (graph steps levels : List ℕ) (v top : ℕ) (a : Label) where
   -- u arrives at v by a

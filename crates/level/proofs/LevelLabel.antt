@@ -15,13 +15,13 @@ use Rattle.maps.proofs.Planned.{delays}
 use Rattle.sheet.specs.Table.{delayIn}
 use Rattle.relax.specs.Guard.{Forced}
 use Rattle.relax.specs.Settle.{arrives, CutBy, Settles, Pass}
+use Rattle.relax.proofs.Closed.{well-closed}
+use Rattle.relax.proofs.Forced.{fitting-by}
+use Rattle.relax.proofs.Passes.{base-forced, base-step, base-level, settles-cut, settles-next}
 use Rattle.bound.specs.Lookup.{labelIn, arrivalIn}
 use Rattle.bound.specs.Going.{Keeps, Based}
 use Rattle.level.specs.Carry.{Placed, Between}
 use Rattle.level.specs.Span.{Levelled}
-use Rattle.relax.proofs.Closed.{well-closed}
-use Rattle.relax.proofs.Forced.{fitting-by}
-use Rattle.relax.proofs.Passes.{base-forced, base-step, base-level, settles-cut, settles-next}
 use Rattle.level.proofs.LevelCodes.{placed-in, arrives-in}
 use Rattle.level.proofs.LevelSpan.{placed-kind, kept-below}
 

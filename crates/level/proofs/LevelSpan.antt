@@ -14,13 +14,13 @@ use Rattle.maps.proofs.Planned.{ordered}
 use Rattle.maps.proofs.UsedNodes.{leaf-below}
 use Rattle.sheet.specs.Table.{delayIn}
 use Rattle.relax.specs.Guard.{Forced}
+use Rattle.relax.proofs.Closed.{well-closed}
+use Rattle.relax.proofs.Forced.{forced-level}
 use Rattle.bound.specs.Lookup.{labelIn, arrivalIn, Soon, keptCount, keptLeaf, Beside}
 use Rattle.bound.specs.Bound.{Carrying}
 use Rattle.bound.specs.Going.{Keeps}
 use Rattle.level.specs.Carry.{Leaves, Placed, Arrive, Between}
 use Rattle.level.specs.Span.{TriedLevel, Narrowed, Levelled}
-use Rattle.relax.proofs.Closed.{well-closed}
-use Rattle.relax.proofs.Forced.{forced-level}
 use Rattle.level.proofs.LevelCodes.{placed-in}
 
 logic-kind : (k : Kind) → isLogic k ≡ true → k ≡ logic

@@ -4,7 +4,7 @@ ghost use mathlib.Core.Bool.{false};
 ghost use Prim.Native.Nat.{ℕ, _+_, _-_, _<_, _≤_};
 ghost use lib.ListN.{length};
 ghost use lib.Dec.{eqb};
-ghost use Rattle.maps.specs.Label.{label, leq};
+ghost use Rattle.maps.specs.Label.{leq};
 ghost use Rattle.maps.specs.Code.{labelOf};
 ghost use Rattle.maps.specs.Sheet.{Sheet};
 ghost use Rattle.sheet.specs.Table.{kindIn, delayIn, Falling};

@@ -20,8 +20,8 @@ use Rattle.maps.proofs.Enumerate.{clash}
 use Rattle.maps.proofs.Member.{All-at, All-map, mem-out}
 use Rattle.maps.proofs.Planned.{operands-below}
 use Rattle.sheet.specs.Table.{kindIn, countIn, Tabled}
-use Rattle.sheet.proofs.Tables.{falling}
 use Rattle.sheet.specs.declared.reader.Header as R
+use Rattle.sheet.proofs.Tables.{falling}
 use Rattle.bound.specs.Lookup.{labelsIn}
 use Rattle.planner.specs.Cover.{Covered, Rows, countOf, rowOf}
 use Rattle.planner.specs.Covering.{usedIn, part, MarkedAll, Written, Laid, Going}

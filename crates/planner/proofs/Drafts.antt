@@ -23,10 +23,10 @@ use Rattle.maps.proofs.Enumerate.{clash}
 use Rattle.sheet.specs.Code.{headerMeant}
 use Rattle.sheet.specs.declared.reader.Header as R
 use Rattle.sheet.proofs.After.{Held}
+use Rattle.relax.proofs.Closed.{ready-step}
 use Rattle.bound.specs.Lookup.{labelIn, labelsIn, Soon}
 use Rattle.bound.specs.Going.{Given, AllKept}
 use Rattle.level.specs.Cuts.{Lowest}
-use Rattle.relax.proofs.Closed.{ready-step}
 use Rattle.schedule.proofs.Exact.{labels-exact}
 use Rattle.planner.specs.Cover.{Labelled, Covered, Rows}
 use Rattle.planner.specs.Bytes.{Small, flatPlan}
@@ -110,7 +110,7 @@ given h =
     record {
       well = h .well;
       tabled = h .nodes;
-      listed = h .wishes;
+      listed = h .rows;
       leaves = ap (λ (x : Header). x .leaves) (h .headed);
       top = ap (λ (x : Header). x .top) (h .headed);
       horizon = ap (λ (x : Header). x .horizon) (h .headed);

@@ -23,12 +23,12 @@ pub extern "C" fn maps_read(
         × (now (graph .exit) ≡ readAfter (parse (now (sheet .entry))) (now (graph .entry)) (now (differences .entry)) .graph)
         × (now (differences .exit) ≡ readAfter (parse (now (sheet .entry))) (now (graph .entry)) (now (differences .entry)) .differences) ⌝ }
 {
-    let mut nodes = [0u32; 3072];
-    let mut wishes = [0u32; 4096];
-    let reading = read_sheet(sheet, &mut nodes, &mut wishes);
+    let mut own_graph = [0u32; 3072];
+    let mut own_differences = [0u32; 4096];
+    let reading = read_sheet(sheet, &mut own_graph, &mut own_differences);
     let Reading::Refused(why) = reading else {
-        *graph = nodes;
-        *differences = wishes;
+        *graph = own_graph;
+        *differences = own_differences;
         return ReadAnswer {
             number: 0,
             place: 0,

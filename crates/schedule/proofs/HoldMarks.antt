@@ -60,27 +60,27 @@ more-mark l v h = record { wide = length-set l v 1; still = λ u e. go u e (ℕ-
 pub marked-new : (l : List ℕ) (v : ℕ) → v < length l → getD l v 0 ≡ 0 → Marked l (set l v 1) true
 marked-new l v h e = (more-mark l v h, omega (arith, zeros-mark l v h e))
 
--- ---- the ground
+-- ---- the nodes of step 0
 
 -- of the first v nodes those of step 0 are marked
-pub record Ground (steps held : List ℕ) (v : ℕ) : Type 0 where
+pub record HeldZero (steps held : List ℕ) (v : ℕ) : Type 0 where
   pub wide : length held ≡ 256
-  pub ground : (u : ℕ) → u < v → getD steps u 0 ≡ 0 → heldIn held u ≡ true
+  pub zero-held : (u : ℕ) → u < v → getD steps u 0 ≡ 0 → heldIn held u ≡ true
 
-pub ground-mark : {steps held : List ℕ} {v : ℕ} → Ground steps held v → v < 256 → Ground steps (set held v 1) (v + 1)
-ground-mark {steps} {held} {v} g l =
+pub zero-mark : {steps held : List ℕ} {v : ℕ} → HeldZero steps held v → v < 256 → HeldZero steps (set held v 1) (v + 1)
+zero-mark {steps} {held} {v} g l =
     let h : v < length held = omega (arith, g .wide) in
     record {
       wide = length-set held v 1 ∙ g .wide;
-      ground = below-more _ v (λ u k z. more-mark held v h .still u (g .ground u k z)) (λ z. held-here held v h);
+      zero-held = below-more _ v (λ u k z. more-mark held v h .still u (g .zero-held u k z)) (λ z. held-here held v h);
     }
 
-pub ground-skip : {steps held : List ℕ} {v : ℕ} → Ground steps held v → (getD steps v 0 ≡ 0 → ⊥) → Ground steps held (v + 1)
-ground-skip {steps} {held} {v} g f =
-    record { wide = g .wide; ground = below-more _ v (g .ground) (λ z. absurd (f z)) }
+pub zero-skip : {steps held : List ℕ} {v : ℕ} → HeldZero steps held v → (getD steps v 0 ≡ 0 → ⊥) → HeldZero steps held (v + 1)
+zero-skip {steps} {held} {v} g f =
+    record { wide = g .wide; zero-held = below-more _ v (g .zero-held) (λ z. absurd (f z)) }
 
-pub ground-more : {steps held more : List ℕ} {n : ℕ} → Ground steps held n → More held more → Ground steps more n
-ground-more g p = record { wide = p .wide ∙ g .wide; ground = λ u l z. p .still u (g .ground u l z) }
+pub zero-more : {steps held more : List ℕ} {n : ℕ} → HeldZero steps held n → More held more → HeldZero steps more n
+zero-more g p = record { wide = p .wide ∙ g .wide; zero-held = λ u l z. p .still u (g .zero-held u l z) }
 
 -- ---- operands
 
@@ -134,12 +134,12 @@ module _ (differences steps a : List ℕ) where
 
 -- a sweep that marks nothing leaves the marks closed under holding
 pub held-all : (graph differences steps held more : List ℕ) (n m : ℕ) (r : Bool) → r ≡ false → Marked held more r
-    → Ground steps held n → ((v : ℕ) → v < n → HeldOperands graph steps held v)
+    → HeldZero steps held n → ((v : ℕ) → v < n → HeldOperands graph steps held v)
     → (r ≡ false → (i : ℕ) → i < m → HeldDifference differences steps more i) → HeldAll graph differences steps more n m
 held-all graph differences steps held more n m r e k g own targets =
     let same : held ≡ more = sym (subst (Marked held more) e k) in
     record {
-      ground = subst (λ (l : List ℕ). Ground steps l n) same g .ground;
+      zero-held = subst (λ (l : List ℕ). HeldZero steps l n) same g .zero-held;
       operands = subst (λ (l : List ℕ). (v : ℕ) → v < n → HeldOperands graph steps l v) same own;
       targets = targets e;
     }

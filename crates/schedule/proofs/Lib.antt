@@ -1,4 +1,3 @@
-pub mod Loop
 pub mod Exact
 pub mod HoldMarks
 pub mod Rounds

@@ -24,18 +24,18 @@ use Rattle.cut.specs.Search.{Ends}
 use Rattle.relax.specs.Guard.{Kept}
 use Rattle.relax.specs.Settle.{Pass, Passing}
 use Rattle.relax.specs.Hold.{Holding}
-use Rattle.bound.specs.Lookup.{labelIn, labelsIn, Linked}
-use Rattle.bound.specs.Bound.{HoldsAt}
-use Rattle.bound.specs.Going.{Given, AllKept, Going}
-use Rattle.schedule.specs.Turn.{Nothing}
-use Rattle.schedule.specs.Mark.{heldIn, HeldAll}
-use Rattle.schedule.specs.Round.{First, Relaxed, heightIn, heightMost}
 use Rattle.relax.proofs.Closed.{Closed, well-closed, inside, ready-step}
 use Rattle.relax.proofs.Guard.{legal-node, legal-diffs, ok-legal}
 use Rattle.relax.proofs.Forced.{ok-same}
 use Rattle.relax.proofs.Passes.{pass-start, pass-again, pass-least, pass-floats, Moved, height, height-grows, height-bound}
-use Rattle.schedule.proofs.Loop.{passing-pass, passing-grows, passing-heeds}
+use Rattle.relax.proofs.Loop.{passing-pass, passing-grows, passing-heeds}
+use Rattle.bound.specs.Lookup.{labelIn, labelsIn, Linked}
+use Rattle.bound.specs.Bound.{HoldsAt}
+use Rattle.bound.specs.Going.{Given, AllKept, Going}
 use Rattle.bound.proofs.Safety.{node-in, latency-is, delay-is, difference-in, kept-at, holds-at}
+use Rattle.schedule.specs.Turn.{Nothing}
+use Rattle.schedule.specs.Mark.{heldIn, HeldAll}
+use Rattle.schedule.specs.Round.{First, Relaxed, heightIn, heightMost}
 
 -- how far the labels have risen, as a sum
 height-sum : (n top : ℕ) (steps levels : List ℕ) → heightIn n top steps levels ≡ total (λ v. key (top + 1) (labelIn steps levels v)) n
@@ -86,7 +86,7 @@ module _ {S : Sheet} {graph differences : List ℕ} {limits : R.Header} (g : Giv
   held-holding : (steps levels held : List ℕ) → HeldAll graph differences steps held (limits .nodes) (limits .differences) → Holding S (labelIn steps levels) (heldIn held)
   held-holding steps levels held h =
       record {
-        ground = λ v l e. h .ground v (omega (arith, g .nodes)) e;
+        zero-held = λ v l e. h .zero-held v (omega (arith, g .nodes)) e;
         operands = λ v u l r p near.
             All-at (Pulls v) (node S v .operands) (All-ids (Pulls v) 0 (node S v .operands) (λ j k. operand v l j k)) (mem-out u (node S v .operands) r) p near;
         differences = λ d m. All-at Pushes (S .differences) (All-ids Pushes noDifference (S .differences) (λ i l. target i l)) m;

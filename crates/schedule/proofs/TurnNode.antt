@@ -20,14 +20,14 @@ use Rattle.sheet.specs.Table.{kindIn, delayIn, countIn, operandIn}
 use Rattle.sheet.specs.declared.reader.Header as R
 use Rattle.relax.specs.Guard.{Forced}
 use Rattle.relax.specs.Settle.{arrives, By, Settles, Pass}
-use Rattle.bound.specs.Lookup.{labelIn, arrivalIn, Beside}
-use Rattle.bound.specs.Bound.{Latest}
-use Rattle.bound.specs.Going.{Given, Keeps, AllKept, Going, Based}
-use Rattle.level.specs.Carry.{Placed}
 use Rattle.relax.proofs.Closed.{Closed, well-closed}
 use Rattle.relax.proofs.Forced.{forced-operand}
 use Rattle.relax.proofs.Passes.{base-forced, base-level, settles-from, settles-input, arrives-level}
+use Rattle.bound.specs.Lookup.{labelIn, arrivalIn, Beside}
+use Rattle.bound.specs.Bound.{Latest}
+use Rattle.bound.specs.Going.{Given, Keeps, AllKept, Going, Based}
 use Rattle.bound.proofs.Safety.{node-in, latency-is, delay-is}
+use Rattle.level.specs.Carry.{Placed}
 
 -- a kept cut beside a row that changed is as it was
 pub kept-beside : {S : Sheet} {kept more : List ℕ} {v : ℕ} → WellFormed S → AllKept S kept → length more ≡ 2048 → Beside v kept more → Keeps S more v → AllKept S more

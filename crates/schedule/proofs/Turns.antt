@@ -6,20 +6,30 @@ use mathlib.Core.List.{List}
 use native.Mathlib.Numerals.{add-one}
 use native.Mathlib.Omega.{arith}
 use lib.Dec.{eqb}
-use lib.ListN.{getD, set, length-set}
+use lib.ListN.{length, getD, set, length-set}
 use lib.Seq.{getD-set-same, getD-set-other}
 use borrow.Author.Tests.{eqb-true, eqb-false}
-use Rattle.maps.specs.Label.{Label}
+use Rattle.maps.specs.Label.{Label, label}
 use Rattle.maps.specs.Sheet.{Sheet, size, latency}
+use Rattle.maps.proofs.Fix.{label-path}
 use Rattle.sheet.specs.Table.{latencyIn}
 use Rattle.sheet.specs.declared.reader.Header as R
+use Rattle.relax.specs.Guard.{Raised}
 use Rattle.relax.specs.Settle.{Settles, Pass, Passing, onward}
+use Rattle.relax.proofs.Guard.{legal-node, legal-diffs, guarded-under}
 use Rattle.bound.specs.Lookup.{labelIn}
 use Rattle.bound.specs.Going.{AllKept, Timed, Going}
-use Rattle.schedule.specs.Turn.{Nothing}
-use Rattle.relax.proofs.Guard.{legal-node, legal-diffs, guarded-under}
-use Rattle.schedule.proofs.Loop.{raised-tables}
 use Rattle.bound.proofs.Safety.{node-in, latency-is}
+use Rattle.schedule.specs.Turn.{Nothing}
+
+-- a write to the two tables of labels
+pub raised-tables : (S : Sheet) (steps levels : List ℕ) (v s l : ℕ) → v < length steps → v < length levels
+    → Raised S (labelIn steps levels) v (label s l) (labelIn (set steps v s) (set levels v l))
+raised-tables S steps levels v s l p q =
+    record {
+      here = label-path (getD-set-same steps v s 0 p) (getD-set-same levels v l 0 q);
+      there = λ u k n. label-path (getD-set-other steps v u s 0 n) (getD-set-other levels v u l 0 n);
+    }
 
 module _ {S : Sheet} {graph differences : List ℕ} {limits : R.Header} {first next kept steps levels : List ℕ}
     (going : Going S graph differences limits first next kept steps levels) (v : ℕ) (l : v < limits .nodes) (b : Label) where

@@ -41,6 +41,6 @@ Marked held more false = more ≡ held
 
 -- the marks are closed under holding
 pub record HeldAll (graph differences steps held : List ℕ) (n m : ℕ) : Type 0 where
-  pub ground : (v : ℕ) → v < n → getD steps v 0 ≡ 0 → heldIn held v ≡ true
+  pub zero-held : (v : ℕ) → v < n → getD steps v 0 ≡ 0 → heldIn held v ≡ true
   pub operands : (v : ℕ) → v < n → HeldOperands graph steps held v
   pub targets : (i : ℕ) → i < m → HeldDifference differences steps held i

@@ -9,11 +9,11 @@ use Rattle.maps.specs.Legal.{Least}
 use Rattle.sheet.specs.Table.{delayIn, latencyIn}
 use Rattle.sheet.specs.declared.reader.Header as R
 use Rattle.cut.specs.Search.{Ends}
-use Rattle.schedule.specs.declared.labels.Turn.{Turn}
-use Rattle.schedule.specs.declared.labels.Turn.the-variants as Is
 use Rattle.relax.specs.Settle.{Pass}
 use Rattle.bound.specs.Lookup.{labelIn}
 use Rattle.bound.specs.Going.{Going}
+use Rattle.schedule.specs.declared.labels.Turn.{Turn}
+use Rattle.schedule.specs.declared.labels.Turn.the-variants as Is
 use Rattle.schedule.specs.Turn.{Nothing}
 
 -- the first labels, each in time; or a latency that is not

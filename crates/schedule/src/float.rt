@@ -10,7 +10,7 @@ ghost use Rattle.bound.specs.Bound.{Summed};
 ghost use Rattle.schedule.specs.Mark.{More, heldIn, Near, HeldOperands, HeldDifference, Marked, HeldAll};
 
 // Holds the nodes of step 0, and no other.
-pub fn hold_ground(steps: &[u32; 256], held: &mut [u8; 256], n: u32)
+pub fn hold_step_0(steps: &[u32; 256], held: &mut [u8; 256], n: u32)
     requires { ⌜ n ≤ 256 ⌝ }
     ensures { λ _. ⌜ ((v : ℕ) → v < n → getD (now (steps .entry)) v 0 ≡ 0 → heldIn (now (held .exit)) v ≡ true) ⌝ }
     ensures { λ _. ⌜ length (now (held .exit)) ≡ 256 ⌝ }
@@ -169,7 +169,7 @@ pub fn floats(
     ensures { λ r. ⌜ (r ≡ true → (v : ℕ) × (v < n) × (heldIn (now (held .exit)) v ≡ false)) ⌝ }
     ensures { λ r. ⌜ HeldAll (now (graph .entry)) (now (differences .entry)) (now (steps .entry)) (now (held .exit)) n m ⌝ }
 {
-    hold_ground(steps, held, n);
+    hold_step_0(steps, held, n);
     hold_nodes(graph, steps, held, n);
     while hold_targets(differences, steps, held, m) {
         hold_nodes(graph, steps, held, n);

@@ -21,7 +21,7 @@ pub record Held (bytes graph differences : List ℕ) (h : Header) : Type 0 where
   pub headed : h ≡ headerOf held
   pub nodes : Tabled held graph
   pub walks : Falling graph
-  pub wishes : Listed held differences
+  pub rows : Listed held differences
 
 module _ (bytes g d : List ℕ) where
   pub was-read : (h : Header) → tables (header h) g d ≡ readInto bytes → Held bytes g d h
@@ -38,7 +38,7 @@ module _ (bytes g d : List ℕ) where
             headed = cc (ap (λ (t : Tables). t .answer) f);
             nodes = t;
             walks = falling S g w t;
-            wishes = rw (ap (λ (t : Tables). t .differences) f) (listed S w);
+            rows = rw (ap (λ (t : Tables). t .differences) f) (listed S w);
           }
       go (refused k p) q f = let z : _≡_ {A = ℕ} 0 1 = cc (ap (λ (t : Tables). t .answer) f) in absurd (omega arith)
 

@@ -6,18 +6,18 @@ use Rattle.maps.specs.Code.{kindMeant, numberOf, placeOf}
 use Rattle.maps.specs.declared.Node as N
 use Rattle.maps.specs.declared.Refusal.{Refusal}
 use Rattle.maps.specs.declared.Refusal.the-variants.{Ended}
-use Rattle.sheet.specs.Table.{Answer, header}
-use Rattle.sheet.specs.Table as Table
 use Rattle.number.specs.Code.{refusalMeant}
 use Rattle.number.specs.declared.Number.{Number}
 use Rattle.number.specs.declared.Number.the-variants.{Value, Refused}
+use Rattle.sheet.specs.Table.{Answer, header}
+use Rattle.sheet.specs.Table as Table
 use Rattle.sheet.specs.declared.fill.Progress.{Progress}
 use Rattle.sheet.specs.declared.fill.Progress.the-variants as P
 use Rattle.sheet.specs.declared.node.HeadRead.{HeadRead}
 use Rattle.sheet.specs.declared.node.HeadRead.the-variants as H
-use Rattle.sheet.specs.declared.node.Wish as W
-use Rattle.sheet.specs.declared.node.WishRead.{WishRead}
-use Rattle.sheet.specs.declared.node.WishRead.the-variants as D
+use Rattle.sheet.specs.declared.node.Difference as W
+use Rattle.sheet.specs.declared.node.DifferenceRead.{DifferenceRead}
+use Rattle.sheet.specs.declared.node.DifferenceRead.the-variants as D
 use Rattle.sheet.specs.declared.reader.Header as R
 use Rattle.sheet.specs.declared.reader.HeaderRead.{HeaderRead}
 use Rattle.sheet.specs.declared.reader.HeaderRead.the-variants as O
@@ -36,11 +36,11 @@ abbrev pub headRead : HeadRead → Got Head
 headRead (H.Head v next) = got (headMeant v) (next .at)
 headRead (H.Refused w) = refusalMeant w
 
-abbrev pub differenceMeant : W.Wish → Difference
+abbrev pub differenceMeant : W.Difference → Difference
 differenceMeant d = record { from = d .from; to = d .to; plus = d .plus; minus = d .minus }
 
-abbrev pub differenceRead : WishRead → Got Difference
-differenceRead (D.Difference d next) = got (differenceMeant d) (next .at)
+abbrev pub differenceRead : DifferenceRead → Got Difference
+differenceRead (D.Value d next) = got (differenceMeant d) (next .at)
 differenceRead (D.Refused w) = refusalMeant w
 
 abbrev pub progressMeant : Progress → Got (Unit {0})
@@ -52,9 +52,9 @@ abbrev pub headRefusal : HeadRead → Progress
 headRefusal (H.Head v next) = P.Refused (Ended 0)
 headRefusal (H.Refused w) = P.Refused w
 
-abbrev pub wishRefusal : WishRead → Progress
-wishRefusal (D.Difference d next) = P.Refused (Ended 0)
-wishRefusal (D.Refused w) = P.Refused w
+abbrev pub differenceRefusal : DifferenceRead → Progress
+differenceRefusal (D.Value d next) = P.Refused (Ended 0)
+differenceRefusal (D.Refused w) = P.Refused w
 
 abbrev pub headerMeant : R.Header → Header
 headerMeant h = record { leaves = h .leaves; top = h .top; horizon = h .horizon; nodes = h .nodes; differences = h .differences }

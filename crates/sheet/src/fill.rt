@@ -5,12 +5,12 @@ ghost use lib.ListN.{length};
 ghost use Rattle.maps.specs.Sheet.{latencyOf};
 ghost use Rattle.maps.specs.WellFormed.{codeOf};
 ghost use Rattle.maps.specs.Code.{kindMeant};
-ghost use Rattle.sheet.specs.Code.{headMeant, differenceMeant, progressMeant, headRefusal, wishRefusal};
+ghost use Rattle.sheet.specs.Code.{headMeant, differenceMeant, progressMeant, headRefusal, differenceRefusal};
 ghost use Rattle.sheet.specs.Table.{markOf, storeFrom, headRow, differenceRow};
 ghost use Rattle.sheet.specs.Fill.{filled, operandInto, operandsInto, nodeInto, nodesInto, differenceInto, differencesInto};
+use crate::node::Difference;
+use crate::node::DifferenceRead;
 use crate::node::HeadRead;
-use crate::node::Wish;
-use crate::node::WishRead;
 use crate::node::difference_at;
 use crate::node::head_at;
 use crate::node::refusal_of;
@@ -38,12 +38,12 @@ pub fn refused_head(read: HeadRead) -> Progress
 }
 
 // The refusal of a difference that was not read.
-pub fn refused_wish(read: WishRead) -> Progress
-    ensures { λ r. ⌜ r ≡ wishRefusal read ⌝ }
+pub fn refused_difference(read: DifferenceRead) -> Progress
+    ensures { λ r. ⌜ r ≡ differenceRefusal read ⌝ }
 {
     match read {
-        WishRead::Refused(why) => Progress::Refused(why),
-        WishRead::Difference(_, _) => Progress::Refused(Refusal::Ended(0)),
+        DifferenceRead::Refused(why) => Progress::Refused(why),
+        DifferenceRead::Value(_, _) => Progress::Refused(Refusal::Ended(0)),
     }
 }
 
@@ -166,14 +166,14 @@ pub fn read_nodes(sheet: &[u8], c: Cursor, top: u32, n: u32, graph: &mut [u32]) 
 }
 
 // Stores a difference from base on.
-pub fn store_difference(table: &mut [u32], base: usize, wish: Wish)
+pub fn store_difference(table: &mut [u32], base: usize, difference: Difference)
     requires { ⌜ base + 4 ≤ length (now table) ⌝ }
-    ensures { λ _. ⌜ now (table .exit) ≡ storeFrom (now (table .entry)) base (differenceRow (differenceMeant wish)) ⌝ }
+    ensures { λ _. ⌜ now (table .exit) ≡ storeFrom (now (table .entry)) base (differenceRow (differenceMeant difference)) ⌝ }
 {
-    table[base] = wish.from;
-    table[base + 1] = wish.to;
-    table[base + 2] = wish.plus;
-    table[base + 3] = wish.minus;
+    table[base] = difference.from;
+    table[base + 1] = difference.to;
+    table[base + 2] = difference.plus;
+    table[base + 3] = difference.minus;
 }
 
 // Reads the difference i into its row.
@@ -182,10 +182,10 @@ pub fn read_difference(sheet: &[u8], c: Cursor, n: u32, i: u32, table: &mut [u32
     ensures { λ r. ⌜ filled (progressMeant r) (now (table .exit)) ≡ differenceInto (now (sheet .entry)) n i (c .at) (now (table .entry)) ⌝ }
 {
     let read = difference_at(sheet, c, n);
-    let WishRead::Difference(wish, next) = read else {
-        return refused_wish(read);
+    let DifferenceRead::Value(difference, next) = read else {
+        return refused_difference(read);
     };
-    store_difference(table, i as usize * 4, wish);
+    store_difference(table, i as usize * 4, difference);
     Progress::Next(next)
 }
 

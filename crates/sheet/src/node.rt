@@ -21,7 +21,7 @@ pub enum HeadRead {
 }
 
 // A difference (u, v, w): w is plus - minus.
-pub struct Wish {
+pub struct Difference {
     pub from: u32,
     pub to: u32,
     pub plus: u32,
@@ -29,8 +29,8 @@ pub struct Wish {
 }
 
 // What reading a difference gives.
-pub enum WishRead {
-    Difference(Wish, Cursor),
+pub enum DifferenceRead {
+    Value(Difference, Cursor),
     Refused(Refusal),
 }
 
@@ -140,7 +140,7 @@ pub fn back_of(code: u32) -> u32
 }
 
 // The numbers of a difference among n nodes.
-pub fn difference_at(sheet: &[u8], c: Cursor, n: u32) -> WishRead
+pub fn difference_at(sheet: &[u8], c: Cursor, n: u32) -> DifferenceRead
     requires { ⌜ 0 < n ⌝ }
     ensures { λ r. ⌜ differenceRead r ≡ readDifference n (now (sheet .entry)) (c .at) ⌝ }
 {
@@ -150,7 +150,7 @@ pub fn difference_at(sheet: &[u8], c: Cursor, n: u32) -> WishRead
         next: c1,
     } = from_read
     else {
-        return WishRead::Refused(refusal_of(from_read));
+        return DifferenceRead::Refused(refusal_of(from_read));
     };
     let to_read = field(sheet, c1, 0, n - 1);
     let Number::Value {
@@ -158,7 +158,7 @@ pub fn difference_at(sheet: &[u8], c: Cursor, n: u32) -> WishRead
         next: c2,
     } = to_read
     else {
-        return WishRead::Refused(refusal_of(to_read));
+        return DifferenceRead::Refused(refusal_of(to_read));
     };
     let code_read = field(sheet, c2, 0, 8190);
     let Number::Value {
@@ -166,10 +166,10 @@ pub fn difference_at(sheet: &[u8], c: Cursor, n: u32) -> WishRead
         next: c3,
     } = code_read
     else {
-        return WishRead::Refused(refusal_of(code_read));
+        return DifferenceRead::Refused(refusal_of(code_read));
     };
-    WishRead::Difference(
-        Wish {
+    DifferenceRead::Value(
+        Difference {
             from,
             to,
             plus: ahead_of(code),

@@ -1,21 +1,24 @@
 //! Times questions about cuts on sheets of 256 nodes with six operands each: some cut of at most six leaves, and the chosen one. The time of
-//! reading the sheet, which each call begins with, is taken off.
-use maps_tests::library::{any_cut, chosen_cut, read, Tables};
+//! reading the sheet, which each call begins with, is taken off: that of the same call with K = 7, which is answered after reading.
+use maps_tests::library::{any_cut, chosen_cut};
 use maps_tests::made::{numbers, spelled};
 use maps_tests::random::Random;
 use maps_tests::reader::{Node, Sheet};
 use std::hint::black_box;
 use std::time::Instant;
 
-/// The least time of several runs, in microseconds.
-fn time(mut work: impl FnMut()) -> f64 {
-    let mut best = f64::INFINITY;
+/// How much longer the least of several runs of `work` takes than that of `base`, in microseconds. The two take turns.
+fn beyond(mut work: impl FnMut(), mut base: impl FnMut()) -> f64 {
+    let mut best = [f64::INFINITY; 2];
     for _ in 0..20 {
         let start = Instant::now();
         work();
-        best = best.min(start.elapsed().as_secs_f64() * 1e6);
+        let middle = Instant::now();
+        base();
+        best[0] = best[0].min((middle - start).as_secs_f64() * 1e6);
+        best[1] = best[1].min(middle.elapsed().as_secs_f64() * 1e6);
     }
-    best
+    best[0] - best[1]
 }
 
 /// 256 nodes, of which the first `inputs` are inputs; a table reads six of the `reach` nodes below it.
@@ -39,17 +42,14 @@ fn main() {
             let mut random = Random::new(inputs as u64 * 1000 + reach as u64);
             let bytes = spelled(&numbers(&sheet(&mut random, inputs, reach)));
             let allowed: Vec<bool> = (0..256).map(|u| u < inputs || (density > 1 && random.once_in(density))).collect();
-            let mut tables = Tables::filled_with(0);
-            let reading = time(|| {
-                black_box(read(&bytes, &mut tables));
-            });
             let mut figures = Vec::new();
             for call in [any_cut, chosen_cut] {
                 let (mut sum, mut worst, mut count) = (0.0f64, 0.0f64, 0);
                 for v in (inputs..256).step_by(5) {
-                    let one = time(|| {
-                        black_box(call(&bytes, &allowed, v, 6));
-                    }) - reading;
+                    let ask = |k| {
+                        black_box(call(&bytes, &allowed, v, k));
+                    };
+                    let one = beyond(|| ask(6), || ask(7));
                     sum += one;
                     worst = worst.max(one);
                     count += 1;

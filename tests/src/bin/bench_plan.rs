@@ -198,4 +198,9 @@ fn main() {
             row(&format!("{name}, {n} nodes"), &sheets);
         }
     }
+    for horizon in [256, 1024, 4095] {
+        let ring = |seed| Sheet { horizon, ..running(&mut Random::new(seed), 256) };
+        let sheets: Vec<Vec<u8>> = (0..SHEETS).map(|seed| spelled(&numbers(&ring(seed)))).collect();
+        row(&format!("rings off horizon {horizon}"), &sheets);
+    }
 }

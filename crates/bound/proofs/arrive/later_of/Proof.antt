@@ -1,6 +1,6 @@
 -- `arrive::later_of` meets its contract.
-use Rattle.bound.proofs.Arriving.{later-taken, later-left-over}
 use Rattle.maps.specs.Code.{labelOf}
+use Rattle.bound.proofs.Arriving.{later-taken, later-left-over}
 use borrow.Author.Needs.{needs}
 use Rattle.bound.proofs.arrive.later_of.Statement.{statement}
 use Rattle.bound.proofs.arrive.later_of.Tie as tie

@@ -7,12 +7,12 @@ use Prim.Native.Nat.{ℕ, _<_}
 use mathlib.Core.Path.{subst, _∙_}
 use Rattle.cut.specs.Search.{zeros}
 use Rattle.schedule.specs.Mark.{HeldOperands, Marked}
-use Rattle.schedule.proofs.HoldMarks.{Ground, ground-more, marked-wide, held-all}
+use Rattle.schedule.proofs.HoldMarks.{HeldZero, zero-more, marked-wide, held-all}
 use Rattle.schedule.proofs.float.floats.Statement.{statement}
 use Rattle.schedule.proofs.float.floats.Tie as tie
 
 abbrev Inv-loop : tie.InvT-loop
-Inv-loop graph differences steps held₀ n m held = Ground steps held n × ((v : ℕ) → v < n → HeldOperands graph steps held v)
+Inv-loop graph differences steps held₀ n m held = HeldZero steps held n × ((v : ℕ) → v < n → HeldOperands graph steps held v)
 
 abbrev μ-loop : tie.MeasureT-loop
 μ-loop graph differences steps held₀ n m held = zeros held
@@ -20,13 +20,13 @@ abbrev μ-loop : tie.MeasureT-loop
 hold-nodes-requires : tie.Need-hold-nodes-requires Inv-loop μ-loop
 hold-nodes-requires c κs =
     let p = c .before .before .before .pre in
-    (p .0 .0, (p .1 .0, (p .1 .1 .0, c .before .hold-ground .ensures .1)))
+    (p .0 .0, (p .1 .0, (p .1 .1 .0, c .before .hold-step-0 .ensures .1)))
 
 loop-holds : tie.Need-loop-holds Inv-loop μ-loop
 loop-holds c =
-    let g = c .before .before .hold-ground .ensures in
+    let g = c .before .before .hold-step-0 .ensures in
     let h = c .hold-nodes .ensures in
-    (ground-more (record { wide = g .1; ground = g .0 }) (h .0), h .1)
+    (zero-more (record { wide = g .1; zero-held = g .0 }) (h .0), h .1)
 
 hold-targets-requires : tie.Need-hold-targets-requires Inv-loop μ-loop
 hold-targets-requires c κs =
@@ -53,7 +53,7 @@ loop-again c =
     let e = c .before .before .before .hold-targets in
     let k = subst (Marked (l .held) (e .last .1 .1 .0)) (c .before .before .if1 .taken) (e .ensures .0) in
     let h = c .hold-nodes2 .ensures in
-    (ground-more (ground-more (l .inv .0) (k .0)) (h .0), h .1)
+    (zero-more (zero-more (l .inv .0) (k .0)) (h .0), h .1)
 
 all-held-requires : tie.Need-all-held-requires Inv-loop μ-loop
 all-held-requires c κs = c .before .before .before .before .before .before .before .before .before .pre .0 .0

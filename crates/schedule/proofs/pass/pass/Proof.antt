@@ -6,10 +6,10 @@ use Prim.Native.Nat.{ℕ, _-_, _≤_}
 use mathlib.Core.Path.{_≡_, subst, _∙_}
 use Rattle.maps.specs.Sheet.{Sheet}
 use Rattle.relax.specs.Settle.{Pass, Passing, begin}
+use Rattle.relax.proofs.Closed.{well-closed}
+use Rattle.relax.proofs.Loop.{passing-pass}
 use Rattle.bound.specs.Lookup.{labelIn}
 use Rattle.bound.specs.Going.{Going}
-use Rattle.relax.proofs.Closed.{well-closed}
-use Rattle.schedule.proofs.Loop.{passing-pass}
 use Rattle.schedule.proofs.Turns.{turn-on}
 use Rattle.schedule.proofs.pass.pass.Statement.{statement}
 use Rattle.schedule.proofs.pass.pass.Tie as tie

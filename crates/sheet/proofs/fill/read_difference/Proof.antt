@@ -6,7 +6,7 @@ use Rattle.sheet.proofs.fill.read_difference.Tie as tie
 
 returns : tie.Need-returns
 unfolding differenceInto gotOn
-returns c = rw (c .refused-wish .ensures, ← c .before .before .before .difference-at .ensures, c .before .enum-told .given .1)
+returns c = rw (c .refused-difference .ensures, ← c .before .before .before .difference-at .ensures, c .before .enum-told .given .1)
 
 returns-2 : tie.Need-returns-2
 unfolding differenceInto gotOn
