@@ -26,17 +26,17 @@ arrivalIn graph steps levels top delay u = plus top (ready (latencyIn graph u) (
 abbrev pub Soon : (graph steps : List ℕ) → ℕ → Type 0
 Soon graph steps u = getD steps u 0 + latencyIn graph u < 4294967295
 
--- the kept cut of v: eight numbers, the count first
-abbrev pub keptCount : List ℕ → ℕ → ℕ
-keptCount kept v = getD kept (v * 8) 0
+-- the row of v in a table of cuts: eight numbers, the count first, then the leaves
+abbrev pub countOf : List ℕ → ℕ → ℕ
+countOf cuts v = getD cuts (v * 8) 0
 
-abbrev pub keptLeaf : List ℕ → ℕ → ℕ → ℕ
-keptLeaf kept v j = getD kept (v * 8 + 1 + j) 0
+abbrev pub leafOf : List ℕ → ℕ → ℕ → ℕ
+leafOf cuts v j = getD cuts (v * 8 + 1 + j) 0
 
--- the cut that is kept for v is c
+-- the cut in the row of v is c
 pub record Row (kept : List ℕ) (v : ℕ) (c : List ℕ) : Type 0 where
-  pub count : keptCount kept v ≡ length c
-  pub leaves : (j : ℕ) → j < length c → keptLeaf kept v j ≡ getD c j 0
+  pub count : countOf kept v ≡ length c
+  pub leaves : (j : ℕ) → j < length c → leafOf kept v j ≡ getD c j 0
 
 -- only the row of v differs
 abbrev pub Beside : (v : ℕ) (kept more : List ℕ) → Type 0

@@ -5,7 +5,7 @@ use mathlib.Core.Bool.{Bool, true, false, not, _&&_}
 use mathlib.Core.List.{List, List·Memᴰ}
 use native.Mathlib.Omega.{arith}
 use lib.Dec.{ltb, eqb}
-use lib.ListN.{length, getD, set, replicate, take, length-set}
+use lib.ListN.{length, getD, set, take, length-set}
 use lib.Seq.{getD-set-same, getD-set-other, getD-take}
 use borrow.Author.Count.{below-more}
 use borrow.Author.Tests.{ltb-true, ltb-false}
@@ -35,12 +35,6 @@ mark-more code marks u v x n l m e lower upper = (
       (getD-set-same marks u x 0 (omega arith) ∙ e),
   λ i k. getD-set-other marks u i x 0 (λ q. omega arith) ∙ upper i (omega arith),
 )
-
--- a table of zeros
-pub zeros-at : (n i : ℕ) → getD {A = ℕ} (replicate n 0) i 0 ≡ 0
-zeros-at zero i = refl
-zeros-at (suc n) zero = refl
-zeros-at (suc n) (suc i) = zeros-at n i
 
 -- a mark is not 0 exactly where the code is 0
 mark-code : (c : ℕ) → not (eqb (insideMark c) 0) ≡ true → c ≡ 0

@@ -11,14 +11,14 @@ use lib.ListN.{length, getD, set, take, length-set}
 use lib.Seq.{length-take-le, getD-take, getD-set-same, getD-set-other}
 use Rattle.maps.specs.Sheet.{Sheet}
 use Rattle.cut.specs.Question.{AllowedCut, Fewest}
-use Rattle.bound.specs.Lookup.{keptCount, keptLeaf, Row, Beside}
+use Rattle.bound.specs.Lookup.{countOf, leafOf, Row, Beside}
 use Rattle.level.specs.Cuts.{Stored}
 
 -- the count and the first j leaves stand in the row of v, and every other row is as it was
 pub record Filling (cut kept more : List ℕ) (v count j : ℕ) : Type 0 where
   pub wide : length more ≡ 2048
-  pub counted : keptCount more v ≡ count
-  pub leaves : (i : ℕ) → i < j → keptLeaf more v i ≡ getD cut i 0
+  pub counted : countOf more v ≡ count
+  pub leaves : (i : ℕ) → i < j → leafOf more v i ≡ getD cut i 0
   pub beside : Beside v kept more
 
 -- a number of the row of v is written
@@ -48,7 +48,7 @@ filling-more cut kept more v count j l lt f =
       beside = beside-set kept more v (v * 8 + 1 + j) (getD cut j 0) (omega arith) (omega arith) (f .beside);
     }
   where
-    leaf : (i : ℕ) → i < j + 1 → Dec (i ≡ j) → keptLeaf (set more (v * 8 + 1 + j) (getD cut j 0)) v i ≡ getD cut i 0
+    leaf : (i : ℕ) → i < j + 1 → Dec (i ≡ j) → leafOf (set more (v * 8 + 1 + j) (getD cut j 0)) v i ≡ getD cut i 0
     leaf i m (yes e) = rw e (getD-set-same more (v * 8 + 1 + j) (getD cut j 0) 0 (let w = f .wide in omega arith))
     leaf i m (no n) =
         getD-set-other more (v * 8 + 1 + j) (v * 8 + 1 + i) (getD cut j 0) 0 (λ e. n (omega arith)) ∙ f .leaves i (omega arith)

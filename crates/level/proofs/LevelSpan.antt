@@ -16,7 +16,7 @@ use Rattle.sheet.specs.Table.{delayIn}
 use Rattle.relax.specs.Guard.{Forced}
 use Rattle.relax.proofs.Closed.{well-closed}
 use Rattle.relax.proofs.Forced.{forced-level}
-use Rattle.bound.specs.Lookup.{labelIn, arrivalIn, Soon, keptCount, keptLeaf, Beside}
+use Rattle.bound.specs.Lookup.{labelIn, arrivalIn, Soon, countOf, leafOf, Beside}
 use Rattle.bound.specs.Bound.{Carrying}
 use Rattle.bound.specs.Going.{Keeps}
 use Rattle.level.specs.Carry.{Leaves, Placed, Arrive, Between}
@@ -54,17 +54,17 @@ module _ {S : Sheet} {graph : List ℕ} {v k top : ℕ} (placed : Placed S graph
           node = placed-in placed;
           few = omega (arith, h .row .count, h .fitting .fits, placed .well .leaves .most);
           ids = λ j l. omega (arith, under j l, placed-in placed);
-          soon = λ j l. soon (keptLeaf kept v j) (under j l);
+          soon = λ j l. soon (leafOf kept v j) (under j l);
         }
       where
-        under : (j : ℕ) → j < keptCount kept v → keptLeaf kept v j < v
+        under : (j : ℕ) → j < countOf kept v → leafOf kept v j < v
         under j l =
             let m : j < length (h .leaves) = omega (arith, h .row .count) in
             omega (arith, h .row .leaves j m, kept-below j m)
 
 -- the label at which leaf j of v's kept cut arrives
 abbrev pub arrivalOf : (graph steps levels kept : List ℕ) (v top : ℕ) → ℕ → Label
-arrivalOf graph steps levels kept v top j = arrivalIn graph steps levels top (delayIn graph v) (keptLeaf kept v j)
+arrivalOf graph steps levels kept v top j = arrivalIn graph steps levels top (delayIn graph v) (leafOf kept v j)
 
 module _ (graph steps levels : List ℕ) (v k top s : ℕ) where
   -- what the question about level l answers of each sheet
@@ -103,7 +103,7 @@ module _ {graph steps levels kept more : List ℕ} {v k top s low high l : ℕ} 
       }
 
   -- a cut that carries level l is kept: the least level that it carries is the high end
-  pub narrowed-down : {r q : ℕ} → low < high → l < high → high ≤ top + 1 → Carrying top s (keptCount more v) (arrivalOf graph steps levels more v top) r → q ≡ max r low
+  pub narrowed-down : {r q : ℕ} → low < high → l < high → high ≤ top + 1 → Carrying top s (countOf more v) (arrivalOf graph steps levels more v top) r → q ≡ max r low
       → ((S : Sheet) → Placed S graph v k top → Keeps S more v × Arrive graph steps levels more v top (label s l))
       → (S : Sheet) → Placed S graph v k top → Beside v kept more
       → Narrowed graph steps levels kept more v k top s low high low q
@@ -120,7 +120,7 @@ module _ {graph steps levels kept more : List ℕ} {v k top s low high l : ℕ} 
       }
 
 module _ {graph steps levels kept : List ℕ} {v k top s low : ℕ} where
-  pub spanned-first : {r q : ℕ} → low ≤ top + 1 → Carrying top s (keptCount kept v) (arrivalOf graph steps levels kept v top) r → q ≡ max r low → Spanned graph steps levels v k top s kept kept low low q
+  pub spanned-first : {r q : ℕ} → low ≤ top + 1 → Carrying top s (countOf kept v) (arrivalOf graph steps levels kept v top) r → q ≡ max r low → Spanned graph steps levels v k top s kept kept low low q
   spanned-first {r} {q} l carries e =
       record {
         order = omega arith;

@@ -12,7 +12,7 @@ use Rattle.maps.specs.WellFormed.{WellFormed}
 use Rattle.sheet.specs.Table.{kindIn, delayIn, Tabled}
 use Rattle.cut.specs.Question.{codeFor}
 use Rattle.relax.specs.Guard.{Forced}
-use Rattle.bound.specs.Lookup.{labelIn, arrivalIn, Soon, keptCount, keptLeaf}
+use Rattle.bound.specs.Lookup.{labelIn, arrivalIn, Soon, countOf, leafOf}
 use Rattle.bound.specs.Going.{Keeps}
 
 -- the table of nodes holds the logic node v; k and top are K and T
@@ -27,9 +27,9 @@ pub record Placed (S : Sheet) (graph : List ℕ) (v k top : ℕ) : Type 0 where
 -- the kept leaves of v are ids whose ready steps are the code's
 pub record Leaves (graph steps kept : List ℕ) (v : ℕ) : Type 0 where
   pub node : v < 256
-  pub few : keptCount kept v ≤ 7
-  pub ids : (j : ℕ) → j < keptCount kept v → keptLeaf kept v j < 256
-  pub soon : (j : ℕ) → j < keptCount kept v → Soon graph steps (keptLeaf kept v j)
+  pub few : countOf kept v ≤ 7
+  pub ids : (j : ℕ) → j < countOf kept v → leafOf kept v j < 256
+  pub soon : (j : ℕ) → j < countOf kept v → Soon graph steps (leafOf kept v j)
 
 -- the codes of the question which cuts of v carry the label a
 pub record CodesBy (graph steps levels code : List ℕ) (v top : ℕ) (a : Label) : Type 0 where
@@ -38,7 +38,7 @@ pub record CodesBy (graph steps levels code : List ℕ) (v top : ℕ) (a : Label
 
 -- the leaves of v's kept cut arrive by a
 abbrev pub Arrive : (graph steps levels kept : List ℕ) (v top : ℕ) → Label → Type 0
-Arrive graph steps levels kept v top a = (j : ℕ) → j < keptCount kept v → arrivalIn graph steps levels top (delayIn graph v) (keptLeaf kept v j) ≼ a
+Arrive graph steps levels kept v top a = (j : ℕ) → j < countOf kept v → arrivalIn graph steps levels top (delayIn graph v) (leafOf kept v j) ≼ a
 
 -- the level of v in step s lies from low to high: less is not carried, and the kept cut carries high, or high is past the top
 pub record Between (S : Sheet) (graph steps levels kept : List ℕ) (v top s low high : ℕ) : Type 0 where

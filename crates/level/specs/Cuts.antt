@@ -12,13 +12,13 @@ use Rattle.sheet.specs.Table.{Tabled}
 use Rattle.cut.specs.Question.{AllowedCut}
 use Rattle.cut.specs.Search.{Ends}
 use Rattle.relax.specs.Settle.{Fitting}
-use Rattle.bound.specs.Lookup.{keptCount, keptLeaf, Row, Beside}
+use Rattle.bound.specs.Lookup.{countOf, leafOf, Row, Beside}
 use Rattle.bound.specs.Going.{Keeps, AllKept}
 
 -- the first count numbers of cut stand in the row of v, and every other row is as it was
 pub record Stored (cut kept more : List ℕ) (v count : ℕ) : Type 0 where
-  pub counted : keptCount more v ≡ count
-  pub leaves : (j : ℕ) → j < count → keptLeaf more v j ≡ getD cut j 0
+  pub counted : countOf more v ≡ count
+  pub leaves : (j : ℕ) → j < count → leafOf more v j ≡ getD cut j 0
   pub beside : Beside v kept more
 
 -- an allowed cut with at most k leaves is kept, or there is none

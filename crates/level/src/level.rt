@@ -10,7 +10,7 @@ ghost use Rattle.maps.specs.Sheet.{Sheet};
 ghost use Rattle.sheet.specs.Table.{kindIn, delayIn, Falling};
 ghost use Rattle.cut.specs.Question.{codeFor};
 ghost use Rattle.relax.specs.Settle.{Settles, Pass};
-ghost use Rattle.bound.specs.Lookup.{labelIn, arrivalIn, keptCount, keptLeaf, Soon, Beside};
+ghost use Rattle.bound.specs.Lookup.{labelIn, arrivalIn, countOf, leafOf, Soon, Beside};
 ghost use Rattle.bound.specs.Bound.{Carrying};
 ghost use Rattle.bound.specs.Going.{Keeps, Based};
 ghost use Rattle.level.specs.Carry.{Leaves, CodesBy, Placed};
@@ -43,7 +43,7 @@ pub fn carried(
 ) -> u32
     requires { ⌜ Leaves (now graph) (now steps) (now kept) v ⌝ }
     requires { ⌜ top < 4294967295 ⌝ }
-    ensures { λ r. ⌜ Carrying top (s .0) (keptCount (now (kept .entry)) v) (λ j. arrivalIn (now (graph .entry)) (now (steps .entry)) (now (levels .entry)) top (delayIn (now (graph .entry)) v) (keptLeaf (now (kept .entry)) v j)) r ⌝ }
+    ensures { λ r. ⌜ Carrying top (s .0) (countOf (now (kept .entry)) v) (λ j. arrivalIn (now (graph .entry)) (now (steps .entry)) (now (levels .entry)) top (delayIn (now (graph .entry)) v) (leafOf (now (kept .entry)) v j)) r ⌝ }
 {
     let delay = graph[v as usize * 12 + 2];
     let base = v as usize * 8;

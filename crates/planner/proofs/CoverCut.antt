@@ -25,11 +25,11 @@ use Rattle.sheet.specs.declared.reader.Header as R
 use Rattle.cut.specs.Question.{AllowedCut, Fewest, Best}
 use Rattle.relax.specs.Settle.{arrives}
 use Rattle.relax.proofs.Forced.{leaf-read}
-use Rattle.bound.specs.Lookup.{labelIn, labelsIn, arrivalIn}
+use Rattle.bound.specs.Lookup.{labelIn, labelsIn, arrivalIn, countOf}
 use Rattle.level.specs.Carry.{Placed}
 use Rattle.level.specs.Cuts.{Stored}
 use Rattle.level.proofs.LevelCodes.{inTime, arrives-in}
-use Rattle.planner.specs.Cover.{countOf, rowOf}
+use Rattle.planner.specs.Cover.{rowOf}
 use Rattle.planner.specs.Covering.{SoundCount, Written, Laid, Picked}
 use Rattle.planner.proofs.CoverMarks.{part-is, part-all}
 

@@ -13,8 +13,8 @@ use lib.Seq.{length-take-le, take-suc, getD-take, getD-drop, getD-set-same, getD
 use borrow.Author.Tests.{eqb-true, eqb-false, ltb-true, ltb-false}
 use Rattle.maps.specs.Lists.{All, mem}
 use Rattle.maps.proofs.Member.{All-ids, All-get}
-use Rattle.bound.specs.Lookup.{Beside}
-use Rattle.planner.specs.Cover.{Rows, countOf, rowOf}
+use Rattle.bound.specs.Lookup.{Beside, countOf}
+use Rattle.planner.specs.Cover.{Rows, rowOf}
 use Rattle.planner.specs.Covering.{part, MarkedAll, Written}
 
 pub mem-append : (u : ℕ) (xs ys : List ℕ) → mem u (xs ++ ys) ≡ (mem u xs || mem u ys)

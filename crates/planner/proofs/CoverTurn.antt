@@ -22,9 +22,9 @@ use Rattle.maps.proofs.Planned.{operands-below}
 use Rattle.sheet.specs.Table.{kindIn, countIn, Tabled}
 use Rattle.sheet.specs.declared.reader.Header as R
 use Rattle.sheet.proofs.Tables.{falling}
-use Rattle.bound.specs.Lookup.{labelsIn}
-use Rattle.planner.specs.Cover.{Covered, Rows, countOf, rowOf}
-use Rattle.planner.specs.Covering.{usedIn, part, MarkedAll, Written, Laid, Going}
+use Rattle.bound.specs.Lookup.{labelsIn, countOf}
+use Rattle.planner.specs.Cover.{Covered, Rows, rowOf}
+use Rattle.planner.specs.Covering.{usedIn, part, MarkedAll, Written, Laid, CoverFrom}
 use Rattle.planner.proofs.CoverMarks.{mem-append, part-is, marked-append, marked-own, count-beside, row-beside}
 use Rattle.planner.proofs.CoverCut.{chosen-low}
 
@@ -76,7 +76,7 @@ module _ (S : Sheet) (L : List Label) (v : ℕ) where
   other-needs logic n m = absurd (m refl)
   other-needs (box lat) n m = absurd (n refl)
 
-module _ {S : Sheet} {L : List Label} (v : ℕ) {marks cuts : List ℕ} (g : Going S L (v + 1) marks cuts) where
+module _ {S : Sheet} {L : List Label} (v : ℕ) {marks cuts : List ℕ} (g : CoverFrom S L (v + 1) marks cuts) where
   -- the test of the code is that of the definition
   pub used-is : {graph : List ℕ} → Tabled S graph → v < 256 → usedIn graph marks v ≡ usedNode S L (g .needed) v
   used-is {graph} t l =
@@ -91,8 +91,8 @@ module _ {S : Sheet} {L : List Label} (v : ℕ) {marks cuts : List ℕ} (g : Goi
       ∙ ap (λ (n : ℕ). usedBelow S L n (g .needed)) (sym (add-one v)) ∙ g .rest
 
   -- an unused node
-  pub going-idle : usedNode S L (g .needed) v ≡ false → Going S L v marks cuts
-  going-idle e =
+  pub cover-idle : usedNode S L (g .needed) v ≡ false → CoverFrom S L v marks cuts
+  cover-idle e =
       record {
         needed = g .needed;
         rest = after false e;
@@ -111,10 +111,10 @@ module _ {S : Sheet} {L : List Label} (v : ℕ) {marks cuts : List ℕ} (g : Goi
       row w le m (no n) = g .rows w (omega (arith, n)) m
 
   -- a used node, with the row of what it needs
-  going-used : {more next : List ℕ} (row : List ℕ) → size S ≤ 256 → usedNode S L (g .needed) v ≡ true → needs S L (node S v .kind) v ≡ row → All (λ u. u < v) row
+  cover-used : {more next : List ℕ} (row : List ℕ) → size S ≤ 256 → usedNode S L (g .needed) v ≡ true → needs S L (node S v .kind) v ≡ row → All (λ u. u < v) row
       → MarkedAll (v ∷ row) marks more → ((w : ℕ) → w < 256 → (w ≡ v → ⊥) → (countOf next w ≡ countOf cuts w) × (rowOf next w ≡ rowOf cuts w))
-      → rowOf next v ≡ cond (isLogic (node S v .kind)) (chosenCut S L v) [] → v < 256 → Going S L v more next
-  going-used {more} {next} row small e n low m same own l =
+      → rowOf next v ≡ cond (isLogic (node S v .kind)) (chosenCut S L v) [] → v < 256 → CoverFrom S L v more next
+  cover-used {more} {next} row small e n low m same own l =
       record {
         needed = v ∷ row ++ g .needed;
         rest = ap (λ (r : List ℕ). usedBelow S L v (v ∷ r ++ g .needed)) (sym n) ∙ after true e;
@@ -153,7 +153,7 @@ module _ {S : Sheet} {graph steps levels : List ℕ} {limits : R.Header} (laid :
   small : size S ≤ 256
   small = laid .given .well .size .most
 
-  module _ {v : ℕ} (l : v < size S) {marks cuts : List ℕ} (g : Going S L (v + 1) marks cuts) {t : Bool} (e : t ≡ usedIn graph marks v) where
+  module _ {v : ℕ} (l : v < size S) {marks cuts : List ℕ} (g : CoverFrom S L (v + 1) marks cuts) {t : Bool} (e : t ≡ usedIn graph marks v) where
     low : v < 256
     low = omega (arith, small)
 
@@ -163,20 +163,20 @@ module _ {S : Sheet} {graph steps levels : List ℕ} {limits : R.Header} (laid :
     test : t ≡ usedNode S L (g .needed) v
     test = e ∙ used-is v g (laid .given .tabled) low
 
-    pub turn-idle : t ≡ false → Going S L v marks cuts
-    turn-idle q = going-idle v g (sym test ∙ q)
+    pub turn-idle : t ≡ false → CoverFrom S L v marks cuts
+    turn-idle q = cover-idle v g (sym test ∙ q)
 
     module _ (q : t ≡ true) (rows : Rows 256 marks cuts) where
       own : MarkedAll (v ∷ []) marks (set marks v 1)
       own = marked-own marks v (rows .marks-wide) low
 
-      pub turn-input : (kindIn graph v ≡ 2 → ⊥) → (kindIn graph v ≡ 1 → ⊥) → Going S L v (set marks v 1) cuts
+      pub turn-input : (kindIn graph v ≡ 2 → ⊥) → (kindIn graph v ≡ 1 → ⊥) → CoverFrom S L v (set marks v 1) cuts
       turn-input a b =
           let n = other-needs S L v (node S v .kind) (λ x. a (code ∙ x)) (λ x. b (code ∙ x)) in
-          going-used v g [] small (sym test ∙ q) (n .0) tt own (λ w h k. (refl, refl))
+          cover-used v g [] small (sym test ∙ q) (n .0) tt own (λ w h k. (refl, refl))
           (row-blank cuts v (g .blank v (omega arith)) ∙ sym (ap (λ (b : Bool). cond b (chosenCut S L v) []) (n .1))) low
 
-      pub turn-box : {more : List ℕ} → kindIn graph v ≡ 2 → MarkedAll (part graph (v * 12 + 5) (countIn graph v)) (set marks v 1) more → Going S L v more cuts
+      pub turn-box : {more : List ℕ} → kindIn graph v ≡ 2 → MarkedAll (part graph (v * 12 + 5) (countIn graph v)) (set marks v 1) more → CoverFrom S L v more cuts
       turn-box {more} a m =
           let n = box-needs S L v (node S v .kind) (sym code ∙ a) in
           let t = laid .given .tabled in
@@ -184,7 +184,7 @@ module _ {S : Sheet} {graph steps levels : List ℕ} {limits : R.Header} (laid :
           let few = falling S graph (laid .given .well) t .few v low in
           let count = t .counts v low in
           let is = part-is graph (v * 12 + 5) (countIn graph v) (node S v .operands) (omega arith) count (λ j h. t .operands v j low (omega arith)) in
-          going-used v g (node S v .operands) small (sym test ∙ q) (n .0) (operands-below S (laid .given .well) v)
+          cover-used v g (node S v .operands) small (sym test ∙ q) (n .0) (operands-below S (laid .given .well) v)
           (marked-append own (subst (λ (r : List ℕ). MarkedAll r (set marks v 1) more) is m)) (λ w h k. (refl, refl))
           (row-blank cuts v (g .blank v (omega arith)) ∙ sym (ap (λ (b : Bool). cond b (chosenCut S L v) []) (n .1))) low
 
@@ -192,17 +192,17 @@ module _ {S : Sheet} {graph steps levels : List ℕ} {limits : R.Header} (laid :
       kind-logic a = logic-needs S L v (node S v .kind) (sym code ∙ a) .1
 
       pub turn-logic : {more next : List ℕ} → kindIn graph v ≡ 1 → Written v cuts next → rowOf next v ≡ chosenCut S L v → MarkedAll (rowOf next v) (set marks v 1) more
-          → Going S L v more next
+          → CoverFrom S L v more next
       turn-logic {more} {next} a w is m =
           let n = logic-needs S L v (node S v .kind) (sym code ∙ a) in
-          going-used v g (chosenCut S L v) small (sym test ∙ q) (n .0) (chosen-low laid v l (n .1))
+          cover-used v g (chosenCut S L v) small (sym test ∙ q) (n .0) (chosen-low laid v l (n .1))
           (marked-append own (subst (λ (r : List ℕ). MarkedAll r (set marks v 1) more) is m))
           (λ u h k. (count-beside v cuts next (w .beside) u k, row-beside v cuts next (w .beside) u k h (rows .cuts-wide) (w .wide) (rows .few u h)))
           (is ∙ sym (ap (λ (b : Bool). cond b (chosenCut S L v) []) (n .1))) low
 
   -- before the first turn, and after the last
-  pub going-none : {marks cuts : List ℕ} {n : ℕ} → n ≡ size S → ((u : ℕ) → u < 256 → getD marks u 0 ≡ 0) → ((i : ℕ) → i < 2048 → getD cuts i 0 ≡ 0) → Going S L n marks cuts
-  going-none {marks} {cuts} {n} e m c =
+  pub cover-none : {marks cuts : List ℕ} {n : ℕ} → n ≡ size S → ((u : ℕ) → u < 256 → getD marks u 0 ≡ 0) → ((i : ℕ) → i < 2048 → getD cuts i 0 ≡ 0) → CoverFrom S L n marks cuts
+  cover-none {marks} {cuts} {n} e m c =
       record {
         needed = [];
         rest = ap (λ (k : ℕ). usedBelow S L k []) e;
@@ -211,8 +211,8 @@ module _ {S : Sheet} {graph steps levels : List ℕ} {limits : R.Header} (laid :
         blank = λ w h. c (w * 8) (omega (arith, small));
       }
 
-  pub going-done : {marks cuts : List ℕ} → Going S L 0 marks cuts → Covered S L marks cuts
-  going-done g =
+  pub cover-done : {marks cuts : List ℕ} → CoverFrom S L 0 marks cuts → Covered S L marks cuts
+  cover-done g =
       record {
         marked = λ v l. g .marked v (omega (arith, small)) ∙ ap (λ (us : List ℕ). cond (mem v us) 1 0) (g .rest);
         rows = λ v l. g .rows v (omega arith) l ∙ ap (λ (us : List ℕ). leavesOf S L us v) (g .rest);

@@ -12,7 +12,7 @@ use Rattle.maps.specs.Lists.{mem, keep, below}
 use Rattle.maps.specs.Label.{Label}
 use Rattle.maps.specs.Sheet.{Sheet, node, size, isLogic}
 use Rattle.maps.specs.Cut.{FittingCut, logicNode, cut, fittingCuts}
-use Rattle.maps.specs.Legal.{Legal, CarryingCut}
+use Rattle.maps.specs.Legal.{Legal, CarryingCut, NoneLegal}
 use Rattle.maps.specs.Least.{at, Labels, late, least, leastLabels, Answer, none, some}
 use Rattle.maps.specs.Cover.{Used, used, chosenCut}
 use Rattle.maps.specs.Plan.{plan}
@@ -27,7 +27,7 @@ use Rattle.maps.proofs.UsedNodes.{used-in, used-complete, used-sound}
 use Rattle.maps.proofs.Fix.{is-least, is-late}
 use Rattle.maps.proofs.Parse.{parse-well}
 use Rattle.maps.proofs.Planned.{ordered, least-right, latency-least}
-use Rattle.planner.specs.Demands.{AllCut, LowestCutless, NoneLegal, LeastLabels, Ground, unread, uncut, tooLate, tooShort, planned, Demand-1, Covers, Demand-2, LeastPlan, Demand-3}
+use Rattle.planner.specs.Demands.{AllCut, LowestCutless, LeastLabels, Ground, unread, uncut, tooLate, tooShort, planned, Demand-1, Covers, Demand-2, LeastPlan, Demand-3}
 use Rattle.planner.proofs.Drafts.{legal-carries, refused-outcome, sheet-outcome}
 
 -- ---- the lowest number that passes a test

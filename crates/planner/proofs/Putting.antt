@@ -10,7 +10,8 @@ use borrow.Author.Tests.{lt-ltb, le-ltb}
 use Rattle.maps.specs.Lists.{All, below, concat}
 use Rattle.maps.specs.Number.{encoded, encodedUpTo}
 use Rattle.maps.proofs.Member.{All-get}
-use Rattle.planner.specs.Cover.{countOf, rowOf}
+use Rattle.bound.specs.Lookup.{countOf}
+use Rattle.planner.specs.Cover.{rowOf}
 use Rattle.planner.specs.Writing.{Put}
 
 -- nothing is written

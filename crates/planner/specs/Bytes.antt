@@ -4,7 +4,8 @@ use mathlib.Core.List.{List, _++_, map}
 use lib.ListN.{getD}
 use Rattle.maps.specs.Lists.{below, concat}
 use Rattle.maps.specs.Number.{encoded}
-use Rattle.planner.specs.Cover.{countOf, rowOf}
+use Rattle.bound.specs.Lookup.{countOf}
+use Rattle.planner.specs.Cover.{rowOf}
 
 -- every number is one that two bytes spell
 pub record Small (latency n : ℕ) (steps levels : List ℕ) : Type 0 where

@@ -12,6 +12,7 @@ use Rattle.maps.specs.Cover.{used}
 use Rattle.maps.specs.Plan.{leavesOf}
 use Rattle.sheet.specs.Table.{Tabled}
 use Rattle.sheet.specs.declared.reader.Header as R
+use Rattle.bound.specs.Lookup.{countOf}
 
 -- the table and the limits are those of the sheet
 pub record Labelled (S : Sheet) (graph : List ℕ) (limits : R.Header) : Type 0 where
@@ -21,10 +22,7 @@ pub record Labelled (S : Sheet) (graph : List ℕ) (limits : R.Header) : Type 0 
   pub top : limits .top ≡ S .top
   pub nodes : limits .nodes ≡ size S
 
--- the row of v: a count, then so many leaves
-abbrev pub countOf : (cuts : List ℕ) → ℕ → ℕ
-countOf cuts v = getD cuts (v * 8) 0
-
+-- the leaves in the row of v
 abbrev pub rowOf : (cuts : List ℕ) → ℕ → List ℕ
 rowOf cuts v = take (countOf cuts v) (drop (v * 8 + 1) cuts)
 

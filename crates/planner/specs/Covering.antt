@@ -15,8 +15,8 @@ use Rattle.maps.specs.Cover.{usedBelow, used, chosenCut}
 use Rattle.maps.specs.Plan.{leavesOf}
 use Rattle.sheet.specs.Table.{kindIn, markIn}
 use Rattle.sheet.specs.declared.reader.Header as R
-use Rattle.bound.specs.Lookup.{labelsIn, Beside}
-use Rattle.planner.specs.Cover.{Labelled, countOf, rowOf}
+use Rattle.bound.specs.Lookup.{labelsIn, Beside, countOf}
+use Rattle.planner.specs.Cover.{Labelled, rowOf}
 
 -- v is an output, a box, or marked
 abbrev pub usedIn : (graph marks : List ℕ) → ℕ → Bool
@@ -55,7 +55,7 @@ pub record Picked (S : Sheet) (L : List Label) (v k r : ℕ) (cut : List ℕ) : 
   pub chosen : take r cut ≡ chosenCut S L v
 
 -- the cover from node v on: marked is what its nodes make used, and their rows stand
-pub record Going (S : Sheet) (L : List Label) (v : ℕ) (marks cuts : List ℕ) : Type 0 where
+pub record CoverFrom (S : Sheet) (L : List Label) (v : ℕ) (marks cuts : List ℕ) : Type 0 where
   pub needed : List ℕ
   pub rest : usedBelow S L v needed ≡ used S L
   pub marked : (u : ℕ) → u < 256 → getD marks u 0 ≡ cond (mem u needed) 1 0

@@ -8,7 +8,7 @@ use Rattle.maps.specs.Lists.{mem}
 use Rattle.maps.specs.Label.{Label}
 use Rattle.maps.specs.Sheet.{Sheet, size}
 use Rattle.maps.specs.Cut.{FittingCut, logicNode}
-use Rattle.maps.specs.Legal.{Legal, Least, latencyOfAll}
+use Rattle.maps.specs.Legal.{Legal, NoneLegal, Least, latencyOfAll}
 use Rattle.maps.specs.Least.{at}
 use Rattle.maps.specs.Cover.{Chosen, Used, used}
 use Rattle.maps.specs.Plan.{leavesOf, plan}
@@ -25,10 +25,6 @@ pub record LowestCutless (S : Sheet) (v : ℕ) : Type 0 where
   pub isLogic : logicNode S v ≡ true
   pub none : (c : List ℕ) → FittingCut S v c → ⊥
   pub lowest : (u : ℕ) → u < v → logicNode S u ≡ true → (c : List ℕ) × FittingCut S u c
-
--- "no legal labelling within H"
-abbrev pub NoneLegal : Sheet → Type 0
-NoneLegal S = (M : ℕ → Label) → Legal S M (S .horizon) → ⊥
 
 -- one label for each node, and they are "the least legal ones"
 pub record LeastLabels (S : Sheet) (L : List Label) : Type 0 where

@@ -4,7 +4,8 @@ use mathlib.Core.Path.{_≡_}
 use mathlib.Core.List.{List, _++_}
 use lib.ListN.{length, getD, take}
 use Rattle.maps.specs.Lists.{All}
-use Rattle.planner.specs.Cover.{countOf, rowOf}
+use Rattle.bound.specs.Lookup.{countOf}
+use Rattle.planner.specs.Cover.{rowOf}
 
 -- xs, at most `most` bytes, stand from `at` to `next` behind what stood before them
 pub record Put (most : ℕ) (before after : List ℕ) (at next : ℕ) (xs : List ℕ) : Type 0 where

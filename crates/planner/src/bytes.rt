@@ -5,7 +5,8 @@ ghost use Prim.Native.Nat.{ℕ, _+_, _<_, _≤_};
 ghost use lib.ListN.{length, take, getD};
 ghost use Rattle.maps.specs.Lists.{All, below, concat};
 ghost use Rattle.maps.specs.Number.{encoded};
-ghost use Rattle.planner.specs.Cover.{Rows, countOf, rowOf};
+ghost use Rattle.bound.specs.Lookup.{countOf};
+ghost use Rattle.planner.specs.Cover.{Rows, rowOf};
 ghost use Rattle.planner.specs.Bytes.{Small, flatRow, flatPlan};
 ghost use Rattle.planner.specs.Writing.{Put, Writable};
 

@@ -10,9 +10,9 @@ ghost use Rattle.maps.specs.Legal.{CarryingCut};
 ghost use Rattle.maps.specs.Least.{at};
 ghost use Rattle.maps.specs.Cover.{chosenCut};
 ghost use Rattle.sheet.specs.Table.{countIn, Falling};
-ghost use Rattle.bound.specs.Lookup.{Soon, labelsIn};
-ghost use Rattle.planner.specs.Cover.{Labelled, Covered, Rows, countOf, rowOf};
-ghost use Rattle.planner.specs.Covering.{usedIn, part, MarkedAll, SoundCount, Written, Laid, Picked, Going};
+ghost use Rattle.bound.specs.Lookup.{Soon, labelsIn, countOf};
+ghost use Rattle.planner.specs.Cover.{Labelled, Covered, Rows, rowOf};
+ghost use Rattle.planner.specs.Covering.{usedIn, part, MarkedAll, SoundCount, Written, Laid, Picked, CoverFrom};
 use bound::label_of;
 use cut::choose;
 use level::codes;
@@ -171,8 +171,8 @@ fn cover_node(
     requires { ⌜ ((u : ℕ) → u < v → Soon (now graph) (now steps) u) ⌝ }
     requires { ⌜ Rows 256 (now used) (now cuts) ⌝ }
     ensures { λ _. ⌜ ((S : Sheet) → Laid S (now (graph .entry)) (now (steps .entry)) (now (levels .entry)) limits → v < size S
-        → Going S (labelsIn (size S) (now (steps .entry)) (now (levels .entry))) (v + 1) (now (used .entry)) (now (cuts .entry))
-        → Going S (labelsIn (size S) (now (steps .entry)) (now (levels .entry))) v (now (used .exit)) (now (cuts .exit))) ⌝ }
+        → CoverFrom S (labelsIn (size S) (now (steps .entry)) (now (levels .entry))) (v + 1) (now (used .entry)) (now (cuts .entry))
+        → CoverFrom S (labelsIn (size S) (now (steps .entry)) (now (levels .entry))) v (now (used .exit)) (now (cuts .exit))) ⌝ }
     ensures { λ _. ⌜ Rows 256 (now (used .exit)) (now (cuts .exit)) ⌝ }
 {
     if !is_used(graph, used, v) {

@@ -11,7 +11,7 @@ use borrow.Author.Tests.{leb-true, leb-false}
 use Rattle.maps.specs.Label.{Label, label, _≼_}
 use Rattle.maps.specs.Lists.{All, below}
 use Rattle.maps.specs.Sheet.{Sheet, Difference, node, size, latency}
-use Rattle.maps.specs.Legal.{readyOf, Least, latencyOfAll}
+use Rattle.maps.specs.Legal.{readyOf, Least, latencyOfAll, NoneLegal}
 use Rattle.maps.specs.Least.{at, leastLabels, late, least}
 use Rattle.maps.specs.Outcome.{cutless}
 use Rattle.maps.proofs.Over.{total, length-over, getD-over}
@@ -33,7 +33,6 @@ use Rattle.bound.specs.Lookup.{labelIn, labelsIn, Linked}
 use Rattle.bound.specs.Bound.{HoldsAt}
 use Rattle.bound.specs.Going.{Given, AllKept, Going}
 use Rattle.bound.proofs.Safety.{node-in, latency-is, delay-is, difference-in, kept-at, holds-at}
-use Rattle.schedule.specs.Turn.{Nothing}
 use Rattle.schedule.specs.Mark.{heldIn, HeldAll}
 use Rattle.schedule.specs.Round.{First, Relaxed, heightIn, heightMost}
 
@@ -79,7 +78,7 @@ module _ {S : Sheet} {graph differences : List ℕ} {limits : R.Header} (g : Giv
       pass-start S (delays S (g .well)) (labelIn steps levels) (λ v l.
       let k : v < limits .nodes = omega (arith, g .nodes) in label-path (f .steps-zero v) (f .levels-delay v k ∙ delay-is g v k))
 
-  pub first-late : (v : ℕ) → v < limits .nodes → limits .horizon < latencyIn graph v → Nothing S
+  pub first-late : (v : ℕ) → v < limits .nodes → limits .horizon < latencyIn graph v → NoneLegal S
   first-late v l h M legal = omega (arith, legal .nodes v (node-in g v l .0) .ends, latency-is g v l, g .horizon)
 
   -- the marks of a table are closed under holding
@@ -141,7 +140,7 @@ module _ {S : Sheet} {graph differences : List ℕ} {limits : R.Header} {first n
           let k : i < limits .differences = omega (arith, g .count) in kept-at g steps i k (h i k))
 
   -- a node floats
-  pub round-floats : (held : List ℕ) → HeldAll graph differences steps held (limits .nodes) (limits .differences) → (v : ℕ) → v < limits .nodes → heldIn held v ≡ false → Nothing S
+  pub round-floats : (held : List ℕ) → HeldAll graph differences steps held (limits .nodes) (limits .differences) → (v : ℕ) → v < limits .nodes → heldIn held v ≡ false → NoneLegal S
   round-floats held h v l e M legal =
       pass-floats S (closed g) (labelIn steps levels) ended (heldIn held) (held-holding g steps levels held h) v (node-in g v l .0) e M (S .horizon) legal
 
@@ -214,7 +213,7 @@ module _ {S : Sheet} {graph differences : List ℕ} {limits : R.Header} (g : Giv
       (least-same S (closed g) (S .horizon) (labelIn steps levels) (at (labelsIn (limits .nodes) steps levels))
       (λ v l. getD-over (labelIn steps levels) (label 0 0) (limits .nodes) v (omega (arith, g .nodes))) h)
 
-  pub labels-late : Nothing S → leastLabels S ≡ late
+  pub labels-late : NoneLegal S → leastLabels S ≡ late
   labels-late h = is-late S (least-right S (g .well) cuts) h
 
   pub labels-end : (steps levels : List ℕ) (r : Bool) → Relaxed S steps levels r

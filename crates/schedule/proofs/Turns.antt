@@ -11,6 +11,7 @@ use lib.Seq.{getD-set-same, getD-set-other}
 use borrow.Author.Tests.{eqb-true, eqb-false}
 use Rattle.maps.specs.Label.{Label, label}
 use Rattle.maps.specs.Sheet.{Sheet, size, latency}
+use Rattle.maps.specs.Legal.{NoneLegal}
 use Rattle.maps.proofs.Fix.{label-path}
 use Rattle.sheet.specs.Table.{latencyIn}
 use Rattle.sheet.specs.declared.reader.Header as R
@@ -20,7 +21,6 @@ use Rattle.relax.proofs.Guard.{legal-node, legal-diffs, guarded-under}
 use Rattle.bound.specs.Lookup.{labelIn}
 use Rattle.bound.specs.Going.{AllKept, Timed, Going}
 use Rattle.bound.proofs.Safety.{node-in, latency-is}
-use Rattle.schedule.specs.Turn.{Nothing}
 
 -- a write to the two tables of labels
 pub raised-tables : (S : Sheet) (steps levels : List ℕ) (v s l : ℕ) → v < length steps → v < length levels
@@ -37,7 +37,7 @@ module _ {S : Sheet} {graph differences : List ℕ} {limits : R.Header} {first n
   inside = node-in (going .given) v l .0
 
   -- a forced label past the horizon
-  pub turn-late : Pass S (labelIn steps levels) v → Settles S (labelIn steps levels) v b → limits .horizon < min (b .step + latencyIn graph v) 4294967295 → Nothing S
+  pub turn-late : Pass S (labelIn steps levels) v → Settles S (labelIn steps levels) v b → limits .horizon < min (b .step + latencyIn graph v) 4294967295 → NoneLegal S
   turn-late p s h M legal =
       let up = s .forced .forced M (guarded-under S (labelIn steps levels) (p .guarded) M (S .horizon) legal) (legal-node S M legal v inside) (legal-diffs S M legal v) in
       omega (arith, up .steps, legal .nodes v inside .ends, latency-is (going .given) v l, going .given .horizon)

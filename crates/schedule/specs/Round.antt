@@ -5,7 +5,7 @@ use mathlib.Core.Bool.{Bool}
 use mathlib.Core.List.{List}
 use lib.ListN.{length, getD}
 use Rattle.maps.specs.Sheet.{Sheet}
-use Rattle.maps.specs.Legal.{Least}
+use Rattle.maps.specs.Legal.{Least, NoneLegal}
 use Rattle.sheet.specs.Table.{delayIn, latencyIn}
 use Rattle.sheet.specs.declared.reader.Header as R
 use Rattle.cut.specs.Search.{Ends}
@@ -14,7 +14,6 @@ use Rattle.bound.specs.Lookup.{labelIn}
 use Rattle.bound.specs.Going.{Going}
 use Rattle.schedule.specs.declared.labels.Turn.{Turn}
 use Rattle.schedule.specs.declared.labels.Turn.the-variants as Is
-use Rattle.schedule.specs.Turn.{Nothing}
 
 -- the first labels, each in time; or a latency that is not
 pub record First (graph steps levels : List ℕ) (n horizon : ℕ) : Type 0 where
@@ -40,7 +39,7 @@ heightMost limits = limits .nodes * ((limits .horizon + 1) * (limits .top + 1))
 -- least: the labels are the least legal ones. late: nothing is legal within the horizon. again: the labels have risen
 abbrev pub RoundEnds : (S : Sheet) (graph differences : List ℕ) (limits : R.Header) (first next kept steps levels steps' levels' : List ℕ) → Turn → Type 0
 RoundEnds S graph differences limits first next kept steps levels steps' levels' Is.Least = Least S (S .horizon) (labelIn steps' levels')
-RoundEnds S graph differences limits first next kept steps levels steps' levels' Is.Late = Nothing S
+RoundEnds S graph differences limits first next kept steps levels steps' levels' Is.Late = NoneLegal S
 RoundEnds S graph differences limits first next kept steps levels steps' levels' Is.Again =
     Going S graph differences limits first next kept steps' levels'
     × Pass S (labelIn steps' levels') 0
@@ -49,4 +48,4 @@ RoundEnds S graph differences limits first next kept steps levels steps' levels'
 
 -- the labels are the least legal ones, or nothing is legal within the horizon
 abbrev pub Relaxed : (S : Sheet) (steps levels : List ℕ) → Bool → Type 0
-Relaxed S steps levels r = Ends r (Least S (S .horizon) (labelIn steps levels)) (Nothing S)
+Relaxed S steps levels r = Ends r (Least S (S .horizon) (labelIn steps levels)) (NoneLegal S)

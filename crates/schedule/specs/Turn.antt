@@ -6,7 +6,7 @@ use mathlib.Core.List.{List}
 use lib.ListN.{set}
 use Rattle.maps.specs.Label.{Label}
 use Rattle.maps.specs.Sheet.{Sheet, size}
-use Rattle.maps.specs.Legal.{Legal}
+use Rattle.maps.specs.Legal.{NoneLegal}
 use Rattle.sheet.specs.declared.reader.Header as R
 use Rattle.cut.specs.Search.{Ends}
 use Rattle.relax.specs.Settle.{Settles, Passing}
@@ -18,17 +18,13 @@ pub record SettledNode (S : Sheet) (kept steps levels : List ℕ) (v : ℕ) (a :
   pub settles : Settles S (labelIn steps levels) v a
   pub allKept : AllKept S kept
 
--- no labelling is legal within the horizon
-abbrev pub Nothing : Sheet → Type 0
-Nothing S = (M : ℕ → Label) → Legal S M (S .horizon) → ⊥
-
 -- v has the label that settles it, or nothing is legal within the horizon
 abbrev pub Turned : (S : Sheet) (graph differences : List ℕ) (limits : R.Header) (first next kept steps levels steps' levels' : List ℕ) (v : ℕ) → Bool → Type 0
 Turned S graph differences limits first next kept steps levels steps' levels' v r =
     Ends r (Going S graph differences limits first next kept steps' levels'
-    × (b : Label) × Settles S (labelIn steps levels) v b × (steps' ≡ set steps v (b .step)) × (levels' ≡ set levels v (b .level))) (Nothing S)
+    × (b : Label) × Settles S (labelIn steps levels) v b × (steps' ≡ set steps v (b .step)) × (levels' ≡ set levels v (b .level))) (NoneLegal S)
 
 -- every node was settled in turn, or nothing is legal within the horizon
 abbrev pub Passed : (S : Sheet) (graph differences : List ℕ) (limits : R.Header) (first next kept steps levels steps' levels' : List ℕ) → Bool → Type 0
 Passed S graph differences limits first next kept steps levels steps' levels' r =
-    Ends r (Going S graph differences limits first next kept steps' levels' × Passing S (labelIn steps levels) (size S) (labelIn steps' levels')) (Nothing S)
+    Ends r (Going S graph differences limits first next kept steps' levels' × Passing S (labelIn steps levels) (size S) (labelIn steps' levels')) (NoneLegal S)

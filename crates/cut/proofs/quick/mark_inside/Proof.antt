@@ -5,8 +5,9 @@ use borrow.Author.Needs.{needs}
 use borrow.Author.Count.{below-none}
 use native.Mathlib.Omega.{arith}
 use lib.ListN.{length, getD, length-replicate}
+use Rattle.maps.proofs.Member.{zeros-at}
 use Rattle.cut.specs.Quick.{insideMark}
-use Rattle.cut.proofs.WalkFirst.{mark-more, zeros-at}
+use Rattle.cut.proofs.WalkFirst.{mark-more}
 use Rattle.cut.proofs.quick.mark_inside.Statement.{statement}
 use Rattle.cut.proofs.quick.mark_inside.Tie as tie
 

@@ -3,7 +3,7 @@ use Prim.Native.Nat.{ℕ, _-_, _≤_}
 use mathlib.Core.Path.{_≡_, subst}
 use native.Mathlib.Omega.{arith}
 use Rattle.maps.specs.Label.{Label}
-use Rattle.bound.specs.Lookup.{keptCount}
+use Rattle.bound.specs.Lookup.{countOf}
 use Rattle.bound.specs.Bound.{Carrying}
 use Rattle.bound.proofs.Arriving.{carrying-none, carrying-more}
 use Rattle.level.proofs.LevelSpan.{arrivalOf}
@@ -13,7 +13,7 @@ use Rattle.level.proofs.level.carried.Tie as tie
 
 abbrev Inv-loop : tie.InvT-loop
 Inv-loop graph steps levels kept v top s delay base count most₀ j₀ most j =
-    (j ≤ keptCount kept v) × Carrying top (s .0) j (arrivalOf graph steps levels kept v top) most
+    (j ≤ countOf kept v) × Carrying top (s .0) j (arrivalOf graph steps levels kept v top) most
 
 abbrev μ-loop : tie.MeasureT-loop
 μ-loop graph steps levels kept v top s delay base count most₀ j₀ most j = count - j
@@ -47,7 +47,7 @@ returns c =
     let s = c .before .before .before .before in
     let l = c .before .loop in
     let t = c .loop-test .left in
-    let e : l .j ≡ keptCount (s .args .kept .now) (s .args .v) = omega (arith, l .inv .0) in
+    let e : l .j ≡ countOf (s .args .kept .now) (s .args .v) = omega (arith, l .inv .0) in
     subst (λ (n : ℕ). Carrying (s .args .top) (s .args .s .0) n (arrivalOf (s .args .graph .now) (s .args .steps .now) (s .args .levels .now) (s .args .kept .now) (s .args .v) (s .args .top)) (l .most)) e (l .inv .1)
 
 pub carried-spec : {M : Type 1} → statement M

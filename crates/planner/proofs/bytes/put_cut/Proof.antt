@@ -5,7 +5,7 @@ use Prim.Native.Nat.{_-_, _*_, _≤_}
 use mathlib.Core.List.{map}
 use Rattle.maps.specs.Lists.{concat}
 use Rattle.maps.specs.Number.{encoded}
-use Rattle.planner.specs.Cover.{countOf}
+use Rattle.bound.specs.Lookup.{countOf}
 use Rattle.planner.specs.Writing.{Put}
 use Rattle.planner.proofs.Putting.{leavesTo, put-none, put-leaf, put-leaves, leaf-small}
 use Rattle.planner.proofs.bytes.put_cut.Statement.{statement}

@@ -6,15 +6,15 @@ use lib.ListN.{length-replicate, getD-replicate}
 use Rattle.maps.specs.Sheet.{Sheet, size}
 use Rattle.bound.specs.Lookup.{labelsIn}
 use Rattle.planner.specs.Cover.{Rows}
-use Rattle.planner.specs.Covering.{Laid, Going}
-use Rattle.planner.proofs.CoverTurn.{going-none, going-done, rows-none, rows-fewer}
+use Rattle.planner.specs.Covering.{Laid, CoverFrom}
+use Rattle.planner.proofs.CoverTurn.{cover-none, cover-done, rows-none, rows-fewer}
 use borrow.Author.Needs.{needs}
 use Rattle.planner.proofs.covering.cover.Statement.{statement}
 use Rattle.planner.proofs.covering.cover.Tie as tie
 
 abbrev Inv-loop : tie.InvT-loop
 Inv-loop graph limits steps levels used₀ cuts₀ v₀ used cuts v =
-    (v ≤ limits .nodes) × Rows 256 used cuts × ((S : Sheet) → Laid S graph steps levels limits → Going S (labelsIn (size S) steps levels) v used cuts)
+    (v ≤ limits .nodes) × Rows 256 used cuts × ((S : Sheet) → Laid S graph steps levels limits → CoverFrom S (labelsIn (size S) steps levels) v used cuts)
 
 abbrev μ-loop : tie.MeasureT-loop
 μ-loop graph limits steps levels used₀ cuts₀ v₀ used cuts v = v
@@ -23,7 +23,7 @@ loop-holds : tie.Need-loop-holds Inv-loop μ-loop
 loop-holds c = (
   search needs,
   rows-none (length-replicate {A = ℕ} 256 0) (length-replicate {A = ℕ} 2048 0) (λ u l. getD-replicate 256 u 0 0 l) (λ i l. getD-replicate 2048 i 0 0 l),
-  λ S laid. going-none laid (laid .given .nodes) (λ u l. getD-replicate 256 u 0 0 l) (λ i l. getD-replicate 2048 i 0 0 l),
+  λ S laid. cover-none laid (laid .given .nodes) (λ u l. getD-replicate 256 u 0 0 l) (λ i l. getD-replicate 2048 i 0 0 l),
 )
 
 cover-node-requires : tie.Need-cover-node-requires Inv-loop μ-loop
@@ -47,7 +47,7 @@ loop-again c =
       e .1,
       λ S laid.
           e .0 S laid (omega (arith, laid .given .nodes))
-          (subst (λ (v : ℕ). Going S (labelsIn (size S) (s .args .steps .now) (s .args .levels .now)) v (l .used) (l .cuts)) back (l .inv .2 S laid)),
+          (subst (λ (v : ℕ). CoverFrom S (labelsIn (size S) (s .args .steps .now) (s .args .levels .now)) v (l .used) (l .cuts)) back (l .inv .2 S laid)),
     )
 
 returns : tie.Need-returns Inv-loop μ-loop
@@ -58,8 +58,8 @@ returns c =
     let none : l .v ≡ 0 = omega arith in (
       λ S given carried.
           let laid : Laid S (s .args .graph .now) (s .args .steps .now) (s .args .levels .now) (s .args .limits) = record { given = given; carried = carried } in
-          going-done laid
-          (subst (λ (v : ℕ). Going S (labelsIn (size S) (s .args .steps .now) (s .args .levels .now)) v (l .used) (l .cuts)) none (l .inv .2 S laid)),
+          cover-done laid
+          (subst (λ (v : ℕ). CoverFrom S (labelsIn (size S) (s .args .steps .now) (s .args .levels .now)) v (l .used) (l .cuts)) none (l .inv .2 S laid)),
       rows-fewer (s .pre .1 .0 .0) (l .inv .1),
     )
 

@@ -2,9 +2,9 @@
 use native.Mathlib.Omega.{arith}
 use Prim.Native.Nat.{_+_, _*_, _≤_, _<_}
 use lib.ListN.{length}
-use Rattle.planner.specs.Cover.{countOf}
 use Rattle.planner.proofs.CoverMarks.{part-get}
 use borrow.Author.Needs.{needs}
+use Rattle.bound.specs.Lookup.{countOf}
 use Rattle.planner.proofs.covering.mark_leaves.Statement.{statement}
 use Rattle.planner.proofs.covering.mark_leaves.Tie as tie
 
