@@ -1,4 +1,5 @@
-// A reader: the bytes of a sheet and a position among them. Its functions take it apart and call those over a slice and a cursor; `read_number` has plain parameters, for every other caller.
+// A reader: the bytes of a sheet and a position among them. Its functions take it apart and call those over a slice and a cursor; `read_number`
+// has plain parameters, for every other caller.
 ghost use mathlib.Core.Path.{_≡_};
 ghost use Rattle.maps.specs.Number.{number};
 ghost use Rattle.number.specs.Code.{numberMeant};
