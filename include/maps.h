@@ -30,7 +30,7 @@ extern "C" {
  * of 6 leaves). */
 #define MAPS_PLAN_MOST 4354
 
-/* Bytes of stack to give a calling thread: six times the most that was measured, 86,072 over 208 sheets, most of them made for depth. It is a
+/* Bytes of stack to give a calling thread: six times the most that was measured, 86,072 over 209 sheets, most of them made for depth. It is a
  * margin and not a proved bound. */
 #define MAPS_STACK 524288
 
