@@ -11,7 +11,8 @@
  *  - The sheet is only read. Nothing else of the caller's memory is read or written.
  *
  * Asked of the caller: `sheet` points to sheet_len readable bytes and `plan` to plan_len writable bytes, the two do not overlap, and neither
- * pointer is null, also where its length is 0. A buffer of MAPS_PLAN_MOST bytes is long enough for every plan.
+ * pointer is null, also where its length is 0. A buffer of MAPS_PLAN_MOST bytes is long enough for every plan; maps_plan_length gives the length
+ * of one plan.
  *
  * The call has no global state and allocates nothing: several threads may call it at the same time. Give a thread that
  * calls it MAPS_STACK bytes of stack.
@@ -30,8 +31,8 @@ extern "C" {
  * of 6 leaves). */
 #define MAPS_PLAN_MOST 4354
 
-/* Bytes of stack to give a calling thread: six times the most that was measured, 86,072 over 209 sheets, most of them made for depth. It is a
- * margin and not a proved bound. */
+/* Bytes of stack to give a calling thread. It is a bound: a test (tests/tests/stack.rs) reads the frame of each function from the archive, counts
+ * a recursive function as often as it can be active at once, adds up the deepest path of calls and holds this number to be no less. */
 #define MAPS_STACK 524288
 
 /* What a call answers. */
@@ -56,7 +57,19 @@ enum maps_number {
 /* Plans a sheet into a buffer. */
 struct maps_answer maps_plan(const uint8_t *sheet, size_t sheet_len, uint8_t *plan, size_t plan_len);
 
-/* 1 if the sheet is accepted and the plan is written, otherwise 0. */
+/* Asks for the length of a sheet's plan and writes none: number 0 and, as place, the length in bytes where the sheet has a plan, otherwise the
+ * refusal, never 8. `sheet` may be null where sheet_len is 0. */
+static inline struct maps_answer maps_plan_length(const uint8_t *sheet, size_t sheet_len) {
+    const uint8_t no_sheet = 0;
+    uint8_t no_plan = 0;
+    struct maps_answer answer = maps_plan(sheet_len == 0 ? &no_sheet : sheet, sheet_len, &no_plan, 0);
+    if (answer.number == MAPS_BUFFER_SHORT) {
+        answer.number = MAPS_ACCEPTED;
+    }
+    return answer;
+}
+
+/* 1 if the number is 0: the plan is written or, where its length alone was asked, there is one. Otherwise 0. */
 static inline int maps_accepted(struct maps_answer answer) { return answer.number == MAPS_ACCEPTED; }
 
 /* Document 01's words for a number. */

@@ -12,5 +12,8 @@ fn main() {
     if std::env::var_os("CARGO_FEATURE_SKETCH").is_some() {
         println!("cargo:rustc-link-lib=static=sketch");
     }
+    if std::env::var_os("CARGO_FEATURE_BEFORE").is_some() {
+        println!("cargo:rustc-link-lib=static=before");
+    }
     println!("cargo:rerun-if-changed={}", libraries.display());
 }

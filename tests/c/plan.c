@@ -1,5 +1,6 @@
-/* A caller in C: the hall sheet of document 01 byte for byte, every number from 0 to 8 with its place, exact and short buffers, and known
- * bytes round the buffer. From the folder that holds include/, tests/ and target/:
+/* A caller in C: the hall sheet of document 01 byte for byte, every number from 0 to 8 with its place, exact and short buffers, known bytes
+ * round the buffer, and the length of a plan. It counts cases, each of several comparisons. From the folder that holds include/, tests/ and
+ * target/:
  *
  *   gcc -std=c11 -Wall -Wextra -Wpedantic -Werror -Wconversion -Wshadow -Iinclude tests/c/plan.c -Ltarget/staticlib -lplanner -o target/plan_c
  */
@@ -37,7 +38,7 @@ static const uint8_t HALL_PLAN[29] = {
 
 static unsigned passed, failed;
 
-/* Counts one check. */
+/* Counts one case, whose comparisons all hold or not. */
 static void check(int holds, const char *name) {
     if (holds) {
         passed++;
@@ -50,29 +51,34 @@ static void check(int holds, const char *name) {
 /* The byte that stands at a place before the call. */
 static uint8_t known(size_t at) { return (uint8_t)(0xa5u ^ (37u * at & 0xffu)); }
 
-/* Plans `sheet` into `room` bytes between two strips. The number and place are those given; on number 0 the buffer begins with `plan`; all
- * other bytes keep their values. */
-static void expect(const char *name, const uint8_t *sheet, size_t length, size_t room, uint64_t number, uint64_t place, const uint8_t *plan) {
+static int same(struct maps_answer answer, uint64_t number, uint64_t place) {
+    int holds = answer.number == number && answer.place == place && maps_accepted(answer) == (number == 0);
+    if (!holds) {
+        printf("  %llu %llu (%s)\n", (unsigned long long)answer.number, (unsigned long long)answer.place, maps_text(answer.number));
+    }
+    return holds;
+}
+
+/* Plans `sheet` into `room` bytes between two strips. The number and place are those given; on number 0 the buffer begins with `plan`, where one
+ * is given; all other bytes keep their values. */
+static int planned(const uint8_t *sheet, size_t length, size_t room, uint64_t number, uint64_t place, const uint8_t *plan) {
     uint8_t bytes[STRIP + ROOM + STRIP];
     for (size_t i = 0; i < sizeof bytes; i++) {
         bytes[i] = known(i);
     }
-    struct maps_answer answer = maps_plan(sheet, length, bytes + STRIP, room);
+    int holds = same(maps_plan(sheet, length, bytes + STRIP, room), number, place);
     size_t written = number == MAPS_ACCEPTED ? (size_t)place : 0;
-    int kept = 1;
     for (size_t i = 0; i < sizeof bytes; i++) {
-        kept = kept && ((i >= STRIP && i < STRIP + written) || bytes[i] == known(i));
+        holds = holds && ((i >= STRIP && i < STRIP + written) || bytes[i] == known(i));
     }
-    int holds = answer.number == number && answer.place == place;
-    check(holds, name);
-    if (!holds) {
-        printf("  %llu %llu (%s)\n", (unsigned long long)answer.number, (unsigned long long)answer.place, maps_text(answer.number));
-    }
-    check(kept, name);
-    check(maps_accepted(answer) == (number == 0), name);
-    if (plan != NULL) {
-        check(memcmp(bytes + STRIP, plan, written) == 0, name);
-    }
+    return holds && (plan == NULL || memcmp(bytes + STRIP, plan, written) == 0);
+}
+
+/* One case: a sheet in an ample buffer, in none, and asked for its plan's length alone. */
+static void expect(const char *name, const uint8_t *sheet, size_t length, uint64_t number, uint64_t place, const uint8_t *plan) {
+    int holds = planned(sheet, length, ROOM, number, place, plan);
+    holds = planned(sheet, length, 0, number == MAPS_ACCEPTED ? (uint64_t)MAPS_BUFFER_SHORT : number, place, NULL) && holds;
+    check(same(maps_plan_length(sheet, length), number, place) && holds, name);
 }
 
 /* The hall sheet with one byte changed. */
@@ -80,41 +86,44 @@ static void changed(const char *name, size_t at, uint8_t value, uint64_t number,
     uint8_t sheet[sizeof HALL];
     memcpy(sheet, HALL, sizeof HALL);
     sheet[at] = value;
-    expect(name, sheet, sizeof sheet, ROOM, number, place, NULL);
-    expect(name, sheet, sizeof sheet, 0, number, place, NULL);
+    expect(name, sheet, sizeof sheet, number, place, NULL);
 }
 
 /* The hall sheet and its buffers. */
 static void hall(void) {
     size_t length = sizeof HALL_PLAN;
-    expect("hall, ample buffer", HALL, sizeof HALL, ROOM, MAPS_ACCEPTED, length, HALL_PLAN);
-    expect("hall, exact buffer", HALL, sizeof HALL, length, MAPS_ACCEPTED, length, HALL_PLAN);
-    expect("hall, one byte more", HALL, sizeof HALL, length + 1, MAPS_ACCEPTED, length, HALL_PLAN);
+    expect("hall", HALL, sizeof HALL, MAPS_ACCEPTED, length, HALL_PLAN);
+    check(planned(HALL, sizeof HALL, length, MAPS_ACCEPTED, length, HALL_PLAN), "hall, exact buffer");
+    check(planned(HALL, sizeof HALL, length + 1, MAPS_ACCEPTED, length, HALL_PLAN), "hall, one byte more");
+    int holds = 1;
     for (size_t room = 0; room < length; room++) {
-        expect("8: hall, short buffer", HALL, sizeof HALL, room, MAPS_BUFFER_SHORT, length, NULL);
+        holds = planned(HALL, sizeof HALL, room, MAPS_BUFFER_SHORT, length, NULL) && holds;
     }
+    check(holds, "8: hall, every shorter buffer");
     uint8_t one_step[sizeof HALL];
     memcpy(one_step, HALL, sizeof HALL);
     one_step[2] = 1;
-    expect("hall with H = 1", one_step, sizeof one_step, ROOM, MAPS_ACCEPTED, length, HALL_PLAN);
+    expect("hall with H = 1", one_step, sizeof one_step, MAPS_ACCEPTED, length, HALL_PLAN);
 }
 
 /* Every ground with its place. */
 static void grounds(void) {
+    int holds = 1;
     for (size_t length = 0; length < sizeof HALL; length++) {
-        expect("1: a part of hall", HALL, length, ROOM, MAPS_SHEET_ENDS, length, NULL);
-        expect("1: a part of hall, no buffer", HALL, length, 0, MAPS_SHEET_ENDS, length, NULL);
+        holds = planned(HALL, length, ROOM, MAPS_SHEET_ENDS, length, NULL) && holds;
+        holds = planned(HALL, length, 0, MAPS_SHEET_ENDS, length, NULL) && holds;
     }
+    check(holds, "1: every part of hall");
     static const uint8_t half[] = {0x80};
-    expect("1: 80 at the end", half, sizeof half, ROOM, MAPS_SHEET_ENDS, 1, NULL);
+    expect("1: 80 at the end", half, sizeof half, MAPS_SHEET_ENDS, 1, NULL);
     static const uint8_t zero_second[] = {0x80, 0x00};
-    expect("2: 80 00", zero_second, sizeof zero_second, ROOM, MAPS_SECOND_BYTE, 0, NULL);
+    expect("2: 80 00", zero_second, sizeof zero_second, MAPS_SECOND_BYTE, 0, NULL);
     static const uint8_t great_second[] = {0x80, 0x80};
-    expect("2: 80 80", great_second, sizeof great_second, ROOM, MAPS_SECOND_BYTE, 0, NULL);
+    expect("2: 80 80", great_second, sizeof great_second, MAPS_SECOND_BYTE, 0, NULL);
     static const uint8_t greatest_number[] = {0xff, 0x7f};
-    expect("3: ff 7f as K", greatest_number, sizeof greatest_number, ROOM, MAPS_VALUE, 0, NULL);
+    expect("3: ff 7f as K", greatest_number, sizeof greatest_number, MAPS_VALUE, 0, NULL);
     static const uint8_t late_spelling[] = {0x03, 0x02, 0x84, 0x00};
-    expect("2: the third number", late_spelling, sizeof late_spelling, ROOM, MAPS_SECOND_BYTE, 2, NULL);
+    expect("2: the third number", late_spelling, sizeof late_spelling, MAPS_SECOND_BYTE, 2, NULL);
     changed("3: K = 7", 0, 7, MAPS_VALUE, 0);
     changed("3: T = 0", 1, 0, MAPS_VALUE, 1);
     changed("3: kind 3", 5, 3, MAPS_VALUE, 5);
@@ -124,39 +133,44 @@ static void grounds(void) {
     changed("4: node 5 reads 127", 40, 127, MAPS_OPERAND, 40);
     uint8_t longer[sizeof HALL + 2] = {0};
     memcpy(longer, HALL, sizeof HALL);
-    expect("5: one byte more", longer, sizeof HALL + 1, ROOM, MAPS_BYTES_FOLLOW, sizeof HALL, NULL);
-    expect("5: two bytes more", longer, sizeof HALL + 2, 0, MAPS_BYTES_FOLLOW, sizeof HALL, NULL);
+    expect("5: one byte more", longer, sizeof HALL + 1, MAPS_BYTES_FOLLOW, sizeof HALL, NULL);
+    expect("5: two bytes more", longer, sizeof HALL + 2, MAPS_BYTES_FOLLOW, sizeof HALL, NULL);
     static const uint8_t wide[] = {2, 1, 0, 4, 0, 0, 0, 0, 0, 0, 0, 0, 0, 0, 0, 0, 0, 0, 0, 0, 1, 1, 1, 0, 3, 0, 1, 2};
-    expect("6: node 3 reads three inputs, K = 2", wide, sizeof wide, ROOM, MAPS_NO_CUT, 3, NULL);
-    expect("6 comes before 8", wide, sizeof wide, 0, MAPS_NO_CUT, 3, NULL);
+    expect("6: node 3 reads three inputs, K = 2", wide, sizeof wide, MAPS_NO_CUT, 3, NULL);
     changed("7: hall with H = 0", 2, 0, MAPS_LATE, 0);
 }
 
-/* Sheets and buffers of length 0. */
-static void nothing(void) {
+/* Sheets and buffers of length 0, and a plan's length. */
+static void lengths(void) {
     static const uint8_t none[1] = {0};
-    expect("no sheet", none, 0, ROOM, MAPS_SHEET_ENDS, 0, NULL);
-    expect("no sheet, no buffer", none, 0, 0, MAPS_SHEET_ENDS, 0, NULL);
+    expect("no sheet", none, 0, MAPS_SHEET_ENDS, 0, NULL);
+    check(same(maps_plan_length(NULL, 0), MAPS_SHEET_ENDS, 0), "the length for no sheet, null");
     static const uint8_t one_input[] = {2, 1, 0, 1, 0, 0, 0, 0, 0, 0};
     static const uint8_t one_input_plan[] = {0, 0, 0, 0, 0};
-    expect("one input", one_input, sizeof one_input, 5, MAPS_ACCEPTED, 5, one_input_plan);
-    expect("one input, no buffer", one_input, sizeof one_input, 0, MAPS_BUFFER_SHORT, 5, NULL);
+    expect("one input", one_input, sizeof one_input, MAPS_ACCEPTED, 5, one_input_plan);
+    check(planned(one_input, sizeof one_input, 5, MAPS_ACCEPTED, 5, one_input_plan), "one input, exact buffer");
+    uint8_t plan[ROOM];
+    struct maps_answer length = maps_plan_length(HALL, sizeof HALL);
+    check(maps_accepted(length) && length.place <= sizeof plan && same(maps_plan(HALL, sizeof HALL, plan, (size_t)length.place), 0, length.place),
+          "hall, planned into as many bytes as its plan's length");
 }
 
 /* The words for the numbers are there and differ. */
 static void words(void) {
+    int differ = 1;
     for (uint64_t a = 0; a <= 9; a++) {
         for (uint64_t b = 0; b < a; b++) {
-            check(strcmp(maps_text(a), maps_text(b)) != 0, "words");
+            differ = strcmp(maps_text(a), maps_text(b)) != 0 && differ;
         }
     }
+    check(differ, "words that differ");
     check(strcmp(maps_text(MAPS_LATE), "no legal labelling within H") == 0, "words of 7");
 }
 
 int main(void) {
     hall();
     grounds();
-    nothing();
+    lengths();
     words();
     printf("%u passed, %u failed\n", passed, failed);
     return failed != 0;

@@ -2,7 +2,9 @@
 pub mod cones;
 pub mod labels;
 pub mod library;
+pub mod limits;
 pub mod made;
+pub mod plan;
 pub mod planner;
 pub mod random;
 pub mod reader;

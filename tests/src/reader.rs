@@ -1,4 +1,6 @@
 //! Reading a sheet as document 01 says, or the number and place of the first of grounds 1 to 5.
+use crate::limits::{fields, Range, CODE, H, K, KIND, M, MARK, N, T};
+
 #[derive(Clone, Debug, PartialEq)]
 pub struct Node {
     pub kind: u32,
@@ -52,7 +54,7 @@ impl Source<'_> {
         Ok(((first & 127) as u32 | (second as u32) << 7, place as u64))
     }
 
-    fn ranged(&mut self, low: u32, high: u32) -> Result<u32, Refusal> {
+    fn ranged(&mut self, (low, high): Range) -> Result<u32, Refusal> {
         let (value, place) = self.number()?;
         if value < low || value > high {
             return Err((3, place));
@@ -63,23 +65,19 @@ impl Source<'_> {
 
 pub fn read(bytes: &[u8]) -> Result<Sheet, Refusal> {
     let mut source = Source { bytes, at: 0 };
-    let leaves = source.ranged(2, 6)?;
-    let top = source.ranged(1, 64)?;
-    let horizon = source.ranged(0, 4095)?;
-    let n = source.ranged(1, 256)?;
-    let m = source.ranged(0, 1024)?;
+    let leaves = source.ranged(K)?;
+    let top = source.ranged(T)?;
+    let horizon = source.ranged(H)?;
+    let n = source.ranged(N)?;
+    let m = source.ranged(M)?;
     let mut nodes = Vec::new();
     for own in 0..n {
-        let kind = source.ranged(0, 2)?;
-        let output = source.ranged(0, 1)? == 1;
-        let (delays, latencies, counts) = match kind {
-            0 => ((0, 0), (0, 0), (0, 0)),
-            1 => ((1, top), (0, 0), (1, 6)),
-            _ => ((0, top), (0, 255), (0, 6)),
-        };
-        let delay = source.ranged(delays.0, delays.1)?;
-        let latency = source.ranged(latencies.0, latencies.1)?;
-        let count = source.ranged(counts.0, counts.1)?;
+        let kind = source.ranged(KIND)?;
+        let output = source.ranged(MARK)? == 1;
+        let fields = fields(kind, top);
+        let delay = source.ranged(fields.delay)?;
+        let latency = source.ranged(fields.latency)?;
+        let count = source.ranged(fields.operands)?;
         let mut operands = Vec::new();
         for _ in 0..count {
             let (id, place) = source.number()?;
@@ -92,9 +90,9 @@ pub fn read(bytes: &[u8]) -> Result<Sheet, Refusal> {
     }
     let mut differences = Vec::new();
     for _ in 0..m {
-        let from = source.ranged(0, n - 1)?;
-        let to = source.ranged(0, n - 1)?;
-        let code = source.ranged(0, 8190)? as i32;
+        let from = source.ranged((0, n - 1))?;
+        let to = source.ranged((0, n - 1))?;
+        let code = source.ranged(CODE)? as i32;
         let weight = if code % 2 == 0 { code / 2 } else { -(code + 1) / 2 };
         differences.push(Difference { from, to, weight });
     }

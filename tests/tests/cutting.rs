@@ -1,12 +1,25 @@
 //! The chosen cut of the proved library against every cone, on small graphs made to have many: reconvergent paths, repeated operands, nodes that
 //! must be inside below nodes that may be leaves, ties among the least cuts.
 use maps_tests::cones::{chosen, cuts};
-use maps_tests::library::{any_cut, chosen_cut};
+use maps_tests::library::{chosen_cut, has_cut};
 use maps_tests::made::{numbers, spelled};
 use maps_tests::random::Random;
 use maps_tests::reader::{Node, Sheet};
 
 const SEED: u64 = 20260102;
+
+/// What the list holds before a call.
+const BEFORE: [u32; 8] = [11, 22, 33, 44, 55, 66, 77, u32::MAX];
+
+/// The answer about the cut `found`, and all eight numbers of the list after it.
+fn answer(found: Option<&[u32]>, k: u32) -> (u32, [u32; 8]) {
+    let Some(leaves) = found else {
+        return (k + 1, BEFORE);
+    };
+    let mut list = [0; 8];
+    list[..leaves.len()].copy_from_slice(leaves);
+    (leaves.len() as u32, list)
+}
 
 /// A graph of mostly logic nodes whose operands stand close below them.
 fn graph(random: &mut Random, n: u32) -> Sheet {
@@ -45,11 +58,8 @@ fn chosen_cuts_are_those_of_every_cone() {
                 let k = random.within(0, 6);
                 let expected = best.filter(|c| c.len() <= k as usize);
                 without += u32::from(expected.is_none());
-                match any_cut(&bytes, &allowed, v as u32, k).expect("the question is about the sheet") {
-                    Some(found) => assert!(found.len() <= k as usize && fitting.contains(&found), "{sheet:?} {v} {k} {found:?}"),
-                    None => assert!(expected.is_none(), "{sheet:?} {v} {k}"),
-                }
-                assert_eq!(chosen_cut(&bytes, &allowed, v as u32, k), Some(expected), "{sheet:?} {v} {k}");
+                assert_eq!(has_cut(&bytes, &allowed, v as u32, k), Some(expected.is_some()), "{sheet:?} {v} {k}");
+                assert_eq!(chosen_cut(&bytes, &allowed, v as u32, k, BEFORE), answer(expected.as_deref(), k), "{sheet:?} {v} {k}");
                 asked += 1;
             }
         }
@@ -65,9 +75,11 @@ fn questions_outside_the_sheet_are_not_answered() {
     let bytes = spelled(&numbers(&sheet));
     let allowed = vec![true; 256];
     for v in (0..300).filter(|&v| sheet.nodes.get(v).map_or(true, |node| node.kind != 1)) {
-        assert_eq!(chosen_cut(&bytes, &allowed, v as u32, 6), None);
-        assert_eq!(any_cut(&bytes, &allowed, v as u32, 6), None);
+        assert_eq!(chosen_cut(&bytes, &allowed, v as u32, 6, BEFORE), (255, BEFORE));
+        assert_eq!(has_cut(&bytes, &allowed, v as u32, 6), None);
     }
-    assert_eq!(chosen_cut(&bytes, &allowed, 7, 7), None);
-    assert_eq!(chosen_cut(&bytes[1..], &allowed, 7, 6), None);
+    for (bytes, k) in [(&bytes[..], 7), (&bytes[1..], 6)] {
+        assert_eq!(chosen_cut(bytes, &allowed, 7, k, BEFORE), (255, BEFORE));
+        assert_eq!(has_cut(bytes, &allowed, 7, k), None);
+    }
 }

@@ -16,12 +16,6 @@ use Rattle.relax.proofs.Closed.{ready-step}
 use Rattle.bound.specs.Lookup.{labelIn, arrivalIn, Soon}
 use Rattle.bound.specs.Bound.{Carrying, Latest}
 
-pub later-taken : (a b : Label) (t : Bool) → t ≡ leq a b → t ≡ true → b ≡ later a b
-later-taken a b t e q = sym (ap (λ (x : Bool). cond x b a) (sym e ∙ q))
-
-pub later-left-over : (a b : Label) (t : Bool) → t ≡ leq a b → t ≡ false → a ≡ later a b
-later-left-over a b t e q = sym (ap (λ (x : Bool). cond x b a) (sym e ∙ q))
-
 -- a label whose step fits is as it was
 fitted-same : (a : Label) → a .step ≤ 4294967295 → fitted a ≡ a
 fitted-same a h = label-path (omega arith) refl
@@ -33,13 +27,13 @@ plus-step top d a = go (leb (a .level + d) top)
     go true = omega arith
     go false = omega arith
 
-pub arrival-is : (graph steps levels : List ℕ) (top delay u : ℕ) (own mid r : Label) → own ≡ labelIn steps levels u
-    → mid ≡ fitted (ready (latencyIn graph u) own) → r ≡ fitted (plus top mid delay) → Soon graph steps u → r ≡ arrivalIn graph steps levels top delay u
+pub arrival-is : (graph steps levels : List ℕ) (top delay u lat : ℕ) (own mid r : Label) → own ≡ labelIn steps levels u
+    → lat ≡ latencyIn graph u → mid ≡ fitted (ready lat own) → r ≡ fitted (plus top mid delay) → Soon graph steps u → r ≡ arrivalIn graph steps levels top delay u
 unfolding arrivalIn
-arrival-is graph steps levels top delay u own mid r p q e soon =
+arrival-is graph steps levels top delay u lat own mid r p f q e soon =
     let L = labelIn steps levels u in
     let a : mid ≡ ready (latencyIn graph u) L =
-    q ∙ ap (λ (x : Label). fitted (ready (latencyIn graph u) x)) p ∙ fitted-same (ready (latencyIn graph u) L) (omega (arith, ready-step (latencyIn graph u) L)) in
+    q ∙ ap (λ (n : ℕ). fitted (ready n own)) f ∙ ap (λ (x : Label). fitted (ready (latencyIn graph u) x)) p ∙ fitted-same (ready (latencyIn graph u) L) (omega (arith, ready-step (latencyIn graph u) L)) in
     e ∙ ap (λ (x : Label). fitted (plus top x delay)) a
     ∙ fitted-same (plus top (ready (latencyIn graph u) L) delay)
     (omega (arith, plus-step top delay (ready (latencyIn graph u) L), ready-step (latencyIn graph u) L))
@@ -107,9 +101,9 @@ module _ (graph steps levels : List ℕ) (v top : ℕ) (a : Label) where
   pub latest-none : Latest graph steps levels v top 0 a a
   latest-none = record { from = ≼-refl; all = λ j h. absurd (omega arith); one = inl refl }
 
-  pub latest-more : (count : ℕ) (r x q : Label) → Latest graph steps levels v top count a r → x ≡ arrivalIn graph steps levels top (delayIn graph v) (operandIn graph v count)
-      → q ≡ later r x → Latest graph steps levels v top (count + 1) a q
-  latest-more count r x q h e p =
+  pub latest-more : (count : ℕ) (r x q : Label) (delay u : ℕ) → Latest graph steps levels v top count a r → delay ≡ delayIn graph v → u ≡ operandIn graph v count
+      → x ≡ arrivalIn graph steps levels top delay u → q ≡ later r x → Latest graph steps levels v top (count + 1) a q
+  latest-more count r x q delay u h d o c p =
       subst (Latest graph steps levels v top (count + 1) a) (sym p)
       (record {
         from = ≼-trans (h .from) (later-left r x);
@@ -117,6 +111,9 @@ module _ (graph steps levels : List ℕ) (v top : ℕ) (a : Label) where
         one = pick (later-is r x) (h .one);
       })
     where
+      e : x ≡ arrivalIn graph steps levels top (delayIn graph v) (operandIn graph v count)
+      e = c ∙ ap (λ (n : ℕ). arrivalIn graph steps levels top n u) d ∙ ap (arrivalIn graph steps levels top (delayIn graph v)) o
+
       at : (j : ℕ) → (j < count) ⊎ (j ≡ count) → arrivalIn graph steps levels top (delayIn graph v) (operandIn graph v j) ≼ later r x
       at j (inl w) = ≼-trans (h .all j w) (later-left r x)
       at j (inr w) =
@@ -130,5 +127,5 @@ module _ (graph steps levels : List ℕ) (v top : ℕ) (a : Label) where
       wider (inr w) = inr (w .0, omega (arith, w .1), w .2)
 
       pick : ((later r x ≡ x) × (r ≼ x)) ⊎ ((later r x ≡ r) × (x ≼ r)) → One count r → One (count + 1) (later r x)
-      pick (inl w) o = inr (count, omega arith, w .0 ∙ e)
-      pick (inr w) o = subst (One (count + 1)) (sym (w .0)) (wider o)
+      pick (inl w) g = inr (count, omega arith, w .0 ∙ e)
+      pick (inr w) g = subst (One (count + 1)) (sym (w .0)) (wider g)

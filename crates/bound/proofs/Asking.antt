@@ -12,9 +12,9 @@ use lib.ListN.{length, getD, set, replicate, getD-replicate}
 use lib.Seq.{getD-set-same, getD-set-other}
 use borrow.Author.Tests.{eqb-true, eqb-false}
 use Rattle.maps.proofs.Over.{last-or}
-use Rattle.sheet.specs.Table.{toIn}
+use Rattle.sheet.specs.Table.{operandIn, latencyIn, toIn}
 use Rattle.bound.specs.Lookup.{lastInto, Linked}
-use Rattle.bound.specs.Bound.{Greatest}
+use Rattle.bound.specs.Bound.{Greatest, readyStep}
 
 module _ (s : ℕ) (x : ℕ → ℕ) where
   pub greatest-none : (P : ℕ → Type 0) → ((i : ℕ) → P i → ⊥) → Greatest s P x s
@@ -39,6 +39,9 @@ module _ (s : ℕ) (x : ℕ → ℕ) where
   -- the first k numbers, and one more
   pub greatest-next : (r k q : ℕ) → Greatest s (λ i. i < k) x r → q ≡ max r (x k) → Greatest s (λ i. i < k + 1) x q
   greatest-next r k q g e = greatest-more (λ i. i < k) (λ i. i < k + 1) r k q g (λ i h. last-or i k (omega arith)) (λ i h. omega arith) (omega arith) e
+
+pub operand-ready : (graph steps : List ℕ) (v j u x : ℕ) → u ≡ operandIn graph v j → x ≡ getD steps u 0 + latencyIn graph u → x ≡ readyStep graph steps v j
+operand-ready graph steps v j u x p q = q ∙ ap (λ (w : ℕ). getD steps w 0 + latencyIn graph w) p
 
 -- lists of differences
 module _ (d : List ℕ) where

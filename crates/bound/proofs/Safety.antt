@@ -13,7 +13,7 @@ use Rattle.sheet.proofs.Tables.{falling}
 use Rattle.relax.specs.Guard.{Kept}
 use Rattle.bound.specs.Lookup.{Soon}
 use Rattle.bound.specs.Bound.{Summed, HoldsAt}
-use Rattle.bound.specs.Going.{Given, Timed}
+use Rattle.bound.specs.Going.{Given, Timed, Going, Bounding}
 
 module _ {S : Sheet} {graph differences : List ℕ} {limits : R.Header} (g : Given S graph differences limits) where
   pub few-nodes : limits .nodes ≤ 256
@@ -85,3 +85,8 @@ module _ {S : Sheet} {graph differences : List ℕ} {limits : R.Header} (g : Giv
           ahead = omega (arith, ap (λ (u : ℕ). getD steps u 0) (g .listed .froms i k), g .listed .pluses i k, w .plus, t .ends (d .from) (w .from), g .well .horizon .most);
           behind = omega (arith, ap (λ (u : ℕ). getD steps u 0) (g .listed .tos i k), g .listed .minuses i k, w .minus, t .ends (d .to) (w .to), g .well .horizon .most);
         }
+
+-- what a pass works on has the bounds of each node
+pub bounding : {S : Sheet} {graph differences : List ℕ} {limits : R.Header} {first next kept steps levels : List ℕ} → Going S graph differences limits first next kept steps levels
+    → (v : ℕ) → v < limits .nodes → Bounding S graph differences limits first next steps levels v
+bounding going v l = record { given = going .given; linked = going .linked; timed = going .timed; node = l }

@@ -6,11 +6,11 @@ use mathlib.Core.List.{List}
 use lib.ListN.{length, getD}
 use Rattle.maps.specs.Label.{Label, label, later}
 use Rattle.maps.specs.Sheet.{Sheet, node, size, latency}
-use Rattle.maps.specs.Cut.{logicNode}
+use Rattle.maps.specs.Cut.{logicNode, FittingCut}
 use Rattle.maps.specs.WellFormed.{WellFormed}
 use Rattle.sheet.specs.Table.{Tabled, Listed}
 use Rattle.sheet.specs.declared.reader.Header as R
-use Rattle.relax.specs.Settle.{Fitting, Asks}
+use Rattle.relax.specs.Settle.{Asks}
 use Rattle.bound.specs.Lookup.{Row, Linked}
 
 -- the tables and the limits are those of the sheet
@@ -27,7 +27,7 @@ pub record Given (S : Sheet) (graph differences : List ℕ) (limits : R.Header) 
 -- a fitting cut of v is kept
 pub record Keeps (S : Sheet) (kept : List ℕ) (v : ℕ) : Type 0 where
   pub leaves : List ℕ
-  pub fitting : Fitting S v leaves
+  pub fitting : FittingCut S v leaves
   pub row : Row kept v leaves
 
 -- a fitting cut of each logic node is kept
@@ -40,6 +40,13 @@ pub record Timed (S : Sheet) (steps levels : List ℕ) : Type 0 where
   pub steps-wide : length steps ≡ 256
   pub levels-wide : length levels ≡ 256
   pub ends : (v : ℕ) → v < size S → getD steps v 0 + latency S v ≤ S .horizon
+
+-- what the bounds of node v are taken from
+pub record Bounding (S : Sheet) (graph differences : List ℕ) (limits : R.Header) (first next steps levels : List ℕ) (v : ℕ) : Type 0 where
+  pub given : Given S graph differences limits
+  pub linked : Linked differences (limits .differences) first next
+  pub timed : Timed S steps levels
+  pub node : v < limits .nodes
 
 -- what a pass works on
 pub record Going (S : Sheet) (graph differences : List ℕ) (limits : R.Header) (first next kept steps levels : List ℕ) : Type 0 where

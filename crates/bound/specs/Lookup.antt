@@ -27,11 +27,17 @@ abbrev pub Soon : (graph steps : List ℕ) → ℕ → Type 0
 Soon graph steps u = getD steps u 0 + latencyIn graph u < 4294967295
 
 -- the row of v in a table of cuts: eight numbers, the count first, then the leaves
+abbrev pub cutStride : ℕ
+cutStride = 8
+
+abbrev pub leafColumn : ℕ
+leafColumn = 1
+
 abbrev pub countOf : List ℕ → ℕ → ℕ
-countOf cuts v = getD cuts (v * 8) 0
+countOf cuts v = getD cuts (v * cutStride) 0
 
 abbrev pub leafOf : List ℕ → ℕ → ℕ → ℕ
-leafOf cuts v j = getD cuts (v * 8 + 1 + j) 0
+leafOf cuts v j = getD cuts (v * cutStride + leafColumn + j) 0
 
 -- the cut in the row of v is c
 pub record Row (kept : List ℕ) (v : ℕ) (c : List ℕ) : Type 0 where
@@ -40,7 +46,7 @@ pub record Row (kept : List ℕ) (v : ℕ) (c : List ℕ) : Type 0 where
 
 -- only the row of v differs
 abbrev pub Beside : (v : ℕ) (kept more : List ℕ) → Type 0
-Beside v kept more = (i : ℕ) → (i < v * 8) ⊎ (v * 8 + 8 ≤ i) → getD more i 0 ≡ getD kept i 0
+Beside v kept more = (i : ℕ) → (i < v * cutStride) ⊎ (v * cutStride + cutStride ≤ i) → getD more i 0 ≡ getD kept i 0
 
 -- the last of the first k differences that has the target v, counted from 1; 0 where there is none
 unfoldable pub lastInto : (differences : List ℕ) → ℕ → ℕ → ℕ

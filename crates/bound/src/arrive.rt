@@ -1,18 +1,37 @@
 // Labels in the arrays, and the labels at which nodes arrive at others.
 ghost use mathlib.Core.Path.{_≡_};
-ghost use Prim.Native.Nat.{ℕ, _+_, _<_, max};
-ghost use lib.ListN.{getD};
-ghost use Rattle.maps.specs.Label.{later};
+ghost use Prim.Native.Nat.{ℕ, _+_, _<_};
+ghost use lib.ListN.{getD, set, replicate};
 ghost use Rattle.maps.specs.Code.{labelOf};
+ghost use Rattle.maps.specs.Label.{earliest};
 ghost use Rattle.sheet.specs.Table.{latencyIn, countIn, Falling};
 ghost use Rattle.bound.specs.Lookup.{labelIn, arrivalIn, Soon};
 ghost use Rattle.bound.specs.Bound.{Carrying, Latest};
 use maps::Label;
 use maps::Level;
 use maps::Step;
+use sheet::Graph;
+use sheet::count_in;
+use sheet::delay_in;
+use sheet::latency_in;
+use sheet::operand_in;
+
+// The step of each node's label.
+pub type Steps = [u32; 256];
+
+// The level of each node's label.
+pub type Levels = [u32; 256];
+
+// The step of v.
+pub fn step_of(steps: &Steps, v: u32) -> Step
+    requires { ⌜ v < 256 ⌝ }
+    ensures { λ r. ⌜ r .0 ≡ getD (now (steps .entry)) v 0 ⌝ }
+{
+    Step(steps[v as usize])
+}
 
 // The label of v.
-pub fn label_of(steps: &[u32; 256], levels: &[u32; 256], v: u32) -> Label
+pub fn label_of(steps: &Steps, levels: &Levels, v: u32) -> Label
     requires { ⌜ v < 256 ⌝ }
     ensures { λ r. ⌜ labelOf r ≡ labelIn (now (steps .entry)) (now (levels .entry)) v ⌝ }
 {
@@ -25,102 +44,99 @@ pub fn label_of(steps: &[u32; 256], levels: &[u32; 256], v: u32) -> Label
     }
 }
 
-// The later of two labels.
-pub fn later_of(a: Label, b: Label) -> Label
-    ensures { λ r. ⌜ labelOf r ≡ later (labelOf a) (labelOf b) ⌝ }
+// Gives v a label.
+pub fn set_label(steps: &mut Steps, levels: &mut Levels, v: u32, label: Label)
+    requires { ⌜ v < 256 ⌝ }
+    ensures { λ _. ⌜ now (steps .exit) ≡ set (now (steps .entry)) v (label .step .0) ⌝ }
+    ensures { λ _. ⌜ now (levels .exit) ≡ set (now (levels .entry)) v (label .level .0) ⌝ }
 {
-    if a.at_most(b) {
-        return b;
-    }
-    a
+    let i = v as usize;
+    let step = label.step;
+    let level = label.level;
+    steps[i] = step.0;
+    levels[i] = level.0;
 }
 
-// The greater of two numbers.
-pub fn greater(a: u32, b: u32) -> u32
-    ensures { λ r. ⌜ r ≡ max a b ⌝ }
+// Gives every node the earliest label.
+pub fn clear_labels(steps: &mut Steps, levels: &mut Levels)
+    ensures { λ _. ⌜ now (steps .exit) ≡ replicate 256 (earliest .step) ⌝ }
+    ensures { λ _. ⌜ now (levels .exit) ≡ replicate 256 (earliest .level) ⌝ }
 {
-    if a < b {
-        return b;
-    }
-    a
+    let first = Label::EARLIEST;
+    let step = first.step;
+    let level = first.level;
+    *steps = [step.0; 256];
+    *levels = [level.0; 256];
 }
 
 // The step at which u is ready.
-pub fn ready_step(graph: &[u32; 3072], steps: &[u32; 256], u: u32) -> u32
+pub fn ready_step(graph: &Graph, steps: &Steps, u: u32) -> Step
     requires { ⌜ u < 256 ⌝ }
     requires { ⌜ Soon (now graph) (now steps) u ⌝ }
-    ensures { λ r. ⌜ r ≡ getD (now (steps .entry)) u 0 + latencyIn (now (graph .entry)) u ⌝ }
+    ensures { λ r. ⌜ r .0 ≡ getD (now (steps .entry)) u 0 + latencyIn (now (graph .entry)) u ⌝ }
 {
-    let lat = graph[u as usize * 12 + 3];
-    let own = steps[u as usize];
-    own + lat
+    let own = step_of(steps, u);
+    let lat = latency_in(graph, u);
+    own.after(lat)
 }
 
 // The label at which u arrives at a node of the given delay.
 pub fn arrival(
-    graph: &[u32; 3072],
-    steps: &[u32; 256],
-    levels: &[u32; 256],
+    graph: &Graph,
+    steps: &Steps,
+    levels: &Levels,
     u: u32,
-    delay: u32,
-    top: u32,
+    delay: Level,
+    top: Level,
 ) -> Label
     requires { ⌜ u < 256 ⌝ }
     requires { ⌜ Soon (now graph) (now steps) u ⌝ }
-    ensures { λ r. ⌜ labelOf r ≡ arrivalIn (now (graph .entry)) (now (steps .entry)) (now (levels .entry)) top delay u ⌝ }
+    ensures { λ r. ⌜ labelOf r ≡ arrivalIn (now (graph .entry)) (now (steps .entry)) (now (levels .entry)) (top .0) (delay .0) u ⌝ }
 {
     let own = label_of(steps, levels, u);
-    let lat = graph[u as usize * 12 + 3];
-    let ready = own.ready(Step(lat));
-    ready.plus(Level(delay), Level(top))
+    let lat = latency_in(graph, u);
+    let ready = own.ready(lat);
+    ready.plus(delay, top)
 }
 
 // The least level of step s by which a has come, or top + 1.
-pub fn level_in(a: Label, s: Step, top: u32) -> u32
-    requires { ⌜ top < 4294967295 ⌝ }
-    ensures { λ r. ⌜ Carrying top (s .0) 1 (λ j. labelOf a) r ⌝ }
+pub fn level_in(a: Label, s: Step, top: Level) -> Level
+    requires { ⌜ top .0 < 4294967295 ⌝ }
+    ensures { λ r. ⌜ Carrying (top .0) (s .0) 1 (λ j. labelOf a) (r .0) ⌝ }
 {
-    let start = Label {
-        step: s,
-        level: Level(0),
-    };
+    let start = Label::at(s, Level(0));
     if a.at_most(start) {
-        return 0;
+        return Level(0);
     }
-    let end = Label {
-        step: s,
-        level: Level(top),
-    };
+    let end = Label::at(s, top);
     if a.at_most(end) {
-        let l = a.level;
-        return l.0;
+        return a.level;
     }
-    top + 1
+    Level(top.0 + 1)
 }
 
 // The latest of a label and the arrivals of v's operands.
 pub fn latest_arrival(
-    graph: &[u32; 3072],
-    steps: &[u32; 256],
-    levels: &[u32; 256],
+    graph: &Graph,
+    steps: &Steps,
+    levels: &Levels,
     v: u32,
-    top: u32,
+    top: Level,
     from: Label,
 ) -> Label
     requires { ⌜ v < 256 ⌝ }
     requires { ⌜ Falling (now graph) ⌝ }
     requires { ⌜ ((u : ℕ) → u < v → Soon (now graph) (now steps) u) ⌝ }
-    ensures { λ r. ⌜ Latest (now (graph .entry)) (now (steps .entry)) (now (levels .entry)) v top (countIn (now (graph .entry)) v) (labelOf from) (labelOf r) ⌝ }
+    ensures { λ r. ⌜ Latest (now (graph .entry)) (now (steps .entry)) (now (levels .entry)) v (top .0) (countIn (now (graph .entry)) v) (labelOf from) (labelOf r) ⌝ }
 {
-    let base = v as usize * 12;
-    let delay = graph[base + 2];
-    let count = graph[base + 4];
+    let delay = delay_in(graph, v);
+    let count = count_in(graph, v);
     let mut latest = from;
     let mut j: u32 = 0;
     while j < count {
-        let u = graph[base + 5 + j as usize];
+        let u = operand_in(graph, v, j);
         let a = arrival(graph, steps, levels, u, delay, top);
-        latest = later_of(latest, a);
+        latest = latest.later(a);
         j += 1;
     }
     latest

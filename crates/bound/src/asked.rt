@@ -9,32 +9,39 @@ ghost use Rattle.sheet.specs.Table.{countIn, fromIn, toIn, plusIn, minusIn, Fal
 ghost use Rattle.relax.specs.Settle.{Asks};
 ghost use Rattle.bound.specs.Lookup.{labelIn, Linked, Soon};
 ghost use Rattle.bound.specs.Bound.{Greatest, readyStep, Summed};
-ghost use Rattle.bound.specs.Going.{Going, Based};
-use crate::arrive::greater;
+ghost use Rattle.bound.specs.Going.{Bounding, Based};
+use crate::arrive::Levels;
+use crate::arrive::Steps;
 use crate::arrive::label_of;
-use crate::arrive::later_of;
 use crate::arrive::ready_step;
+use crate::arrive::step_of;
 use maps::Label;
-use maps::Level;
 use maps::Step;
+use sheet::Differences;
+use sheet::Graph;
 use sheet::Header;
+use sheet::count_in;
+use sheet::delay_in;
+use sheet::difference_in;
+use sheet::operand_in;
 
 // Puts difference i at the head of its target's list.
-pub fn link_one(differences: &[u32; 4096], first: &mut [u32; 256], next: &mut [u32; 1024], i: u32)
+pub fn link_one(differences: &Differences, first: &mut [u32; 256], next: &mut [u32; 1024], i: u32)
     requires { ⌜ Linked (now differences) i (now first) (now next) ⌝ }
     requires { ⌜ (i < 1024) × (toIn (now differences) i < 256) ⌝ }
     requires { ⌜ (length (now first) ≡ 256) × (length (now next) ≡ 1024) ⌝ }
     ensures { λ _. ⌜ Linked (now (differences .entry)) (i + 1) (now (first .exit)) (now (next .exit)) ⌝ }
     ensures { λ _. ⌜ (length (now (first .exit)) ≡ 256) × (length (now (next .exit)) ≡ 1024) ⌝ }
 {
-    let to = differences[i as usize * 4 + 1];
+    let difference = difference_in(differences, i);
+    let to = difference.to;
     let head = first[to as usize];
     next[i as usize] = head;
     first[to as usize] = i + 1;
 }
 
 // Lists the differences by their target: `first[v]`, then `next` of each, counted from 1; 0 ends a list.
-pub fn link(differences: &[u32; 4096], first: &mut [u32; 256], next: &mut [u32; 1024], m: u32)
+pub fn link(differences: &Differences, first: &mut [u32; 256], next: &mut [u32; 1024], m: u32)
     requires { ⌜ m ≤ 1024 ⌝ }
     requires { ⌜ ((i : ℕ) → i < m → toIn (now differences) i < 256) ⌝ }
     ensures { λ _. ⌜ Linked (now (differences .entry)) m (now (first .exit)) (now (next .exit)) ⌝ }
@@ -48,57 +55,55 @@ pub fn link(differences: &[u32; 4096], first: &mut [u32; 256], next: &mut [u32; 
     }
 }
 
-// The greatest of s and the ready steps of v's operands.
-pub fn after_operands(graph: &[u32; 3072], steps: &[u32; 256], v: u32, s: u32) -> u32
+// The latest of s and the ready steps of v's operands.
+pub fn after_operands(graph: &Graph, steps: &Steps, v: u32, s: Step) -> Step
     requires { ⌜ v < 256 ⌝ }
     requires { ⌜ Falling (now graph) ⌝ }
     requires { ⌜ ((u : ℕ) → u < v → Soon (now graph) (now steps) u) ⌝ }
-    ensures { λ r. ⌜ Greatest s (λ j. j < countIn (now (graph .entry)) v) (readyStep (now (graph .entry)) (now (steps .entry)) v) r ⌝ }
+    ensures { λ r. ⌜ Greatest (s .0) (λ j. j < countIn (now (graph .entry)) v) (readyStep (now (graph .entry)) (now (steps .entry)) v) (r .0) ⌝ }
 {
-    let base = v as usize * 12;
-    let count = graph[base + 4];
+    let count = count_in(graph, v);
     let mut most = s;
     let mut j: u32 = 0;
     while j < count {
-        let u = graph[base + 5 + j as usize];
-        most = greater(most, ready_step(graph, steps, u));
+        let u = operand_in(graph, v, j);
+        most = most.later(ready_step(graph, steps, u));
         j += 1;
     }
     most
 }
 
-// The greater of s and the step that difference i asks of its target.
-pub fn pushed(differences: &[u32; 4096], steps: &[u32; 256], i: u32, s: u32) -> u32
+// The later of s and the step that difference i asks of its target.
+pub fn pushed(differences: &Differences, steps: &Steps, i: u32, s: Step) -> Step
     requires { ⌜ i < 1024 ⌝ }
     requires { ⌜ Summed (now differences) (now steps) i ⌝ }
-    ensures { λ r. ⌜ r ≡ max s (getD (now (steps .entry)) (fromIn (now (differences .entry)) i) 0 + plusIn (now (differences .entry)) i - minusIn (now (differences .entry)) i) ⌝ }
+    ensures { λ r. ⌜ r .0 ≡ max (s .0) (getD (now (steps .entry)) (fromIn (now (differences .entry)) i) 0 + plusIn (now (differences .entry)) i - minusIn (now (differences .entry)) i) ⌝ }
 {
-    let at = i as usize * 4;
-    let u = differences[at];
-    let plus = differences[at + 2];
-    let minus = differences[at + 3];
-    let own = steps[u as usize];
-    let ahead = own + plus;
+    let difference = difference_in(differences, i);
+    let plus = difference.plus;
+    let minus = difference.minus;
+    let own = step_of(steps, difference.from);
+    let ahead = own.0 + plus;
     if ahead <= minus {
         return s;
     }
-    greater(s, ahead - minus)
+    s.later(Step(ahead - minus))
 }
 
-// The greatest of s and the steps that the differences into v ask for.
+// The latest of s and the steps that the differences into v ask for.
 pub fn after_differences(
-    differences: &[u32; 4096],
+    differences: &Differences,
     first: &[u32; 256],
     next: &[u32; 1024],
-    steps: &[u32; 256],
+    steps: &Steps,
     m: u32,
     v: u32,
-    s: u32,
-) -> u32
+    s: Step,
+) -> Step
     requires { ⌜ (v < 256) × (m ≤ 1024) ⌝ }
     requires { ⌜ Linked (now differences) m (now first) (now next) ⌝ }
     requires { ⌜ ((i : ℕ) → i < m → Summed (now differences) (now steps) i) ⌝ }
-    ensures { λ r. ⌜ Greatest s (λ i. (i < m) × (toIn (now (differences .entry)) i ≡ v)) (λ i. getD (now (steps .entry)) (fromIn (now (differences .entry)) i) 0 + plusIn (now (differences .entry)) i - minusIn (now (differences .entry)) i) r ⌝ }
+    ensures { λ r. ⌜ Greatest (s .0) (λ i. (i < m) × (toIn (now (differences .entry)) i ≡ v)) (λ i. getD (now (steps .entry)) (fromIn (now (differences .entry)) i) 0 + plusIn (now (differences .entry)) i - minusIn (now (differences .entry)) i) (r .0) ⌝ }
 {
     let mut most = s;
     let mut e = first[v as usize];
@@ -111,44 +116,41 @@ pub fn after_differences(
 
 // The least step of v that its own label, its operands and the differences into it allow.
 pub fn step_asked(
-    graph: &[u32; 3072],
-    differences: &[u32; 4096],
+    graph: &Graph,
+    differences: &Differences,
     limits: Header,
     first: &[u32; 256],
     next: &[u32; 1024],
-    steps: &[u32; 256],
+    steps: &Steps,
     v: u32,
 ) -> Step
-    requires { ⌜ ((S : Sheet) × (kept : List ℕ) × (levels : List ℕ) × Going S (now graph) (now differences) limits (now first) (now next) kept (now steps) levels × (v < limits .nodes)) ⌝ }
-    ensures { λ r. ⌜ ((S : Sheet) (kept levels : List ℕ) → Going S (now (graph .entry)) (now (differences .entry)) limits (now (first .entry)) (now (next .entry)) kept (now (steps .entry)) levels → v < limits .nodes
+    requires { ⌜ ((S : Sheet) × (levels : List ℕ) × Bounding S (now graph) (now differences) limits (now first) (now next) (now steps) levels v) ⌝ }
+    ensures { λ r. ⌜ ((S : Sheet) (levels : List ℕ) → Bounding S (now (graph .entry)) (now (differences .entry)) limits (now (first .entry)) (now (next .entry)) (now (steps .entry)) levels v
         → Asks S (labelIn (now (steps .entry)) levels) v (r .0) × (r .0 < 4294967295)) ⌝ }
 {
-    let own = steps[v as usize];
+    let own = step_of(steps, v);
     let s = after_operands(graph, steps, v, own);
-    let most = after_differences(differences, first, next, steps, limits.differences, v, s);
-    Step(most)
+    after_differences(differences, first, next, steps, limits.differences, v, s)
 }
 
 // The later of v's own label and its delay in the step asked.
 pub fn base_label(
-    graph: &[u32; 3072],
-    differences: &[u32; 4096],
+    graph: &Graph,
+    differences: &Differences,
     limits: Header,
     first: &[u32; 256],
     next: &[u32; 1024],
-    steps: &[u32; 256],
-    levels: &[u32; 256],
+    steps: &Steps,
+    levels: &Levels,
     v: u32,
 ) -> Label
-    requires { ⌜ ((S : Sheet) × (kept : List ℕ) × Going S (now graph) (now differences) limits (now first) (now next) kept (now steps) (now levels) × (v < limits .nodes)) ⌝ }
-    ensures { λ r. ⌜ ((S : Sheet) (kept : List ℕ) → Going S (now (graph .entry)) (now (differences .entry)) limits (now (first .entry)) (now (next .entry)) kept (now (steps .entry)) (now (levels .entry)) → v < limits .nodes
+    requires { ⌜ ((S : Sheet) × Bounding S (now graph) (now differences) limits (now first) (now next) (now steps) (now levels) v) ⌝ }
+    ensures { λ r. ⌜ ((S : Sheet) → Bounding S (now (graph .entry)) (now (differences .entry)) limits (now (first .entry)) (now (next .entry)) (now (steps .entry)) (now (levels .entry)) v
         → Based S (labelIn (now (steps .entry)) (now (levels .entry))) v (labelOf r)) ⌝ }
 {
     let s = step_asked(graph, differences, limits, first, next, steps, v);
-    let delay = graph[v as usize * 12 + 2];
-    let asked = Label {
-        step: s,
-        level: Level(delay),
-    };
-    later_of(label_of(steps, levels, v), asked)
+    let delay = delay_in(graph, v);
+    let asked = Label::at(s, delay);
+    let own = label_of(steps, levels, v);
+    own.later(asked)
 }

@@ -2,10 +2,15 @@
 mod arrive;
 mod asked;
 
+pub use arrive::Levels;
+pub use arrive::Steps;
 pub use arrive::arrival;
-pub use arrive::greater;
+pub use arrive::clear_labels;
 pub use arrive::label_of;
 pub use arrive::latest_arrival;
 pub use arrive::level_in;
+pub use arrive::ready_step;
+pub use arrive::set_label;
+pub use arrive::step_of;
 pub use asked::base_label;
 pub use asked::link;

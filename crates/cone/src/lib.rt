@@ -1,15 +1,17 @@
 // The cone of a node inside marked nodes: the walk that finds it, and the test whether its cut fits.
-// `graph` has twelve numbers a node: the fifth counts its operands, which follow. A node whose mark is not 0 may be a member.
-// `part` holds 0 at a node that is not met, 1 at a member, 2 at a leaf. Ids fall from a node to its operands, and each member's operands
-// are walked once.
+// A node whose mark is not 0 may be a member. `part` holds 0 at a node that is not met, 1 at a member, 2 at a leaf. Ids fall from a node to
+// its operands, and each member's operands are walked once.
 ghost use Prim.Native.Nat.{ℕ, _<_, _≤_};
 ghost use Rattle.maps.specs.Sheet.{Sheet};
 ghost use Rattle.sheet.specs.Table.{Falling, countIn, operandIn};
 ghost use Rattle.cone.specs.Walk.{marked, Question, FitTest};
 ghost use Rattle.cone.specs.Part.{Member, Met, Lent, Read, Grown, Walked, Listed};
+use sheet::Graph;
+use sheet::count_in;
+use sheet::operand_in;
 
 // Meets u, which a member reads: as a leaf, or as a member with its operands. A node that is met stays as it is.
-fn visit(graph: &[u32; 3072], marks: &[u8; 256], part: &mut [u8; 256], u: u32)
+fn visit(graph: &Graph, marks: &[u8; 256], part: &mut [u8; 256], u: u32)
     requires { ⌜ Lent (now graph) (now part) u ⌝ }
     requires { ⌜ Read (now graph) (now part) u ⌝ }
     ensures { λ _. ⌜ Grown (now (graph .entry)) (now (marks .entry)) (now (part .entry)) (now (part .exit)) ⌝ }
@@ -28,23 +30,22 @@ fn visit(graph: &[u32; 3072], marks: &[u8; 256], part: &mut [u8; 256], u: u32)
 }
 
 // Meets the operands of the member u from the jth on.
-fn visit_operands(graph: &[u32; 3072], marks: &[u8; 256], part: &mut [u8; 256], u: u32, j: u32)
+fn visit_operands(graph: &Graph, marks: &[u8; 256], part: &mut [u8; 256], u: u32, j: u32)
     requires { ⌜ Lent (now graph) (now part) u ⌝ }
     requires { ⌜ Member (now part) u ⌝ }
     ensures { λ _. ⌜ Grown (now (graph .entry)) (now (marks .entry)) (now (part .entry)) (now (part .exit)) ⌝ }
     ensures { λ _. ⌜ ((i : ℕ) → j ≤ i → i < countIn (now (graph .entry)) u → Met (now (part .exit)) (operandIn (now (graph .entry)) u i)) ⌝ }
 {
-    let base = u as usize * 12;
-    if graph[base + 4] <= j {
+    if count_in(graph, u) <= j {
         return;
     }
-    let y = graph[base + 5 + j as usize];
+    let y = operand_in(graph, u, j);
     visit(graph, marks, part, y);
     visit_operands(graph, marks, part, u, j + 1);
 }
 
 // Finds the cone of v inside the marks, and its leaves.
-fn walk(graph: &[u32; 3072], marks: &[u8; 256], part: &mut [u8; 256], v: u32)
+fn walk(graph: &Graph, marks: &[u8; 256], part: &mut [u8; 256], v: u32)
     requires { ⌜ Falling (now graph) ⌝ }
     requires { ⌜ v < 256 ⌝ }
     ensures { λ _. ⌜ Walked (now (graph .entry)) (now (marks .entry)) v (now (part .exit)) ⌝ }
@@ -78,19 +79,13 @@ fn leaves(part: &[u8; 256], cut: &mut [u32; 8], v: u32, k: u32) -> u32
 
 // The test whether the cut of the cone of v inside the marks fits: the number of its leaves, which `cut` then lists,
 // or k + 1 where it has more than k.
-pub fn cut_fits(
-    graph: &[u32; 3072],
-    marks: &[u8; 256],
-    part: &mut [u8; 256],
-    cut: &mut [u32; 8],
-    v: u32,
-    k: u32,
-) -> u32
+pub fn cut_fits(graph: &Graph, marks: &[u8; 256], cut: &mut [u32; 8], v: u32, k: u32) -> u32
     requires { ⌜ Falling (now graph) ⌝ }
     requires { ⌜ v < 256 ⌝ }
     requires { ⌜ k < 8 ⌝ }
     ensures { λ r. ⌜ ((S : Sheet) → Question S (now (graph .entry)) (now (marks .entry)) v → FitTest S (marked (now (marks .entry))) v k r (now (cut .exit))) ⌝ }
 {
-    walk(graph, marks, part, v);
-    leaves(part, cut, v, k)
+    let mut part = [0u8; 256];
+    walk(graph, marks, &mut part, v);
+    leaves(&part, cut, v, k)
 }

@@ -87,7 +87,9 @@ unfolding Ascends rising
 ascends-rising f zero = omega arith
 ascends-rising f (suc n) = subst (λ (m : ℕ). Ascends 0 m (rising f n ++ single (f n) n)) (add-one n) (ascends-single (f n) n (rising f n) (ascends-rising f n))
 
--- of two tests that as many numbers pass, the one that at least as many pass below each bound lists the smaller number first
+-- Of two tests that as many numbers pass, the one that at least as many pass below each bound lists the smaller number at the first difference:
+-- let the lists agree up to there and go on with a and c. If c were below a, the second list would have one number more below c + 1. So a is
+-- below c, or there is no difference.
 pub first-rising : (f g : ℕ → Bool) (n : ℕ) → length (rising f n) ≡ length (rising g n) → ((b : ℕ) → b ≤ n → sum (λ x. count x (rising g n)) b ≤ sum (λ x. count x (rising f n)) b)
     → (rising f n ≡ rising g n) ⊎ (before (rising f n) (rising g n) ≡ true)
 first-rising f g n e h =

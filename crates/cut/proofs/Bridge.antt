@@ -16,14 +16,14 @@ use Rattle.maps.proofs.Enumerate.{Ordered, path-le}
 use Rattle.maps.proofs.Planned.{ordered}
 use Rattle.sheet.specs.Table.{countIn, operandIn, Falling}
 use Rattle.cut.specs.Question.{AllowedCut, Fewest, Best, codeFor, Asked}
-use Rattle.cut.specs.Search.{at, Leafy, Legal, Touch, Leaf, bit, Valued, Settled, Augmented, Final, member, leafMark, rising}
+use Rattle.cut.specs.Search.{cell, Leafy, Closed, Touch, Leaf, bit, Valued, Settled, Augmented, Final, member, leafMark, rising}
 use Rattle.cut.proofs.Bools.{bool, differ, bit-true, and-yes}
 use Rattle.cut.proofs.Sums.{sum, sum-tight, length-rising}
 use Rattle.cut.proofs.Listing.{keep-rising, rising-same, rising-low}
 use Rattle.cut.proofs.Duality.{units-least}
-use Rattle.cut.proofs.Failed.{settled-legal, settled-root, leaf-mark, marks-size}
+use Rattle.cut.proofs.Failed.{settled-closed, settled-root, leaf-mark, marks-size}
 use Rattle.cut.proofs.Exchange.{final-first}
-use Rattle.cut.proofs.Joined.{joined, joined-root, joined-in, joined-le, joined-path, joined-closed}
+use Rattle.cut.proofs.Joined.{joined, joined-root, joined-in, joined-le, joined-path, joined-whole}
 
 -- an element stands at a place
 member-place : {u : ℕ} (us : List ℕ) → List·Memᴰ u us → (j : ℕ) × (j < length us) × (getD us j 0 ≡ u)
@@ -99,16 +99,16 @@ module _ {S : Sheet} {may : ℕ → Bool} {v : ℕ} {graph code : List ℕ} (ask
       go (inl e) = subst P (sym e) here
       go (inr l) = under u l
 
-  code-inside : (u : ℕ) → u ≤ v → logicNode S u ≡ true → at code u < 3
-  code-inside = down-to (λ u. logicNode S u ≡ true → at code u < 3) (λ t. omega (arith, asked .own)) (λ u l t. go (logicNode S u) (may u) t (asked .below u l))
+  code-inside : (u : ℕ) → u ≤ v → logicNode S u ≡ true → cell code u < 3
+  code-inside = down-to (λ u. logicNode S u ≡ true → cell code u < 3) (λ t. omega (arith, asked .own)) (λ u l t. go (logicNode S u) (may u) t (asked .below u l))
     where
       go : {n : ℕ} (a b : Bool) → a ≡ true → n ≡ codeFor a b → n < 3
       go true true t e = omega arith
       go true false t e = omega arith
       go false b t e = absurd (differ false t refl)
 
-  code-logic : (u : ℕ) → u ≤ v → at code u < 3 → logicNode S u ≡ true
-  code-logic = down-to (λ u. at code u < 3 → logicNode S u ≡ true) (λ l. asked .logic) (λ u l t. go (logicNode S u) (may u) t (asked .below u l))
+  code-logic : (u : ℕ) → u ≤ v → cell code u < 3 → logicNode S u ≡ true
+  code-logic = down-to (λ u. cell code u < 3 → logicNode S u ≡ true) (λ l. asked .logic) (λ u l t. go (logicNode S u) (may u) t (asked .below u l))
     where
       go : {n : ℕ} (a b : Bool) → n < 3 → n ≡ codeFor a b → a ≡ true
       go true b t e = refl
@@ -131,7 +131,7 @@ module _ {S : Sheet} {may : ℕ → Bool} {v : ℕ} {graph code : List ℕ} (ask
       go true false t e = absurd (t .0 e)
       go false false t e = absurd (t .1 e)
 
-  -- ---- cones are legal sets
+  -- ---- cones are closed sets
 
   module _ (C : ℕ → Bool) (cone : Cone S v C) where
     cone-le : (m : ℕ) → C m ≡ true → m ≤ v
@@ -140,9 +140,9 @@ module _ {S : Sheet} {may : ℕ → Bool} {v : ℕ} {graph code : List ℕ} (ask
     cone-low : (m : ℕ) → C m ≡ true → m < size S
     cone-low m t = omega (arith, cone-le m t, asked .node)
 
-    cone-legal : All (λ u. may u ≡ true) (cut S C) → Legal graph code C
-    unfolding Legal Leaf Touch cut
-    cone-legal all m t = (omega (arith, low, cone-le m t), code-inside m (cone-le m t) (cone .logics m t), λ j lt. go j lt (bool (C (operandIn graph m j))))
+    cone-closed : All (λ u. may u ≡ true) (cut S C) → Closed graph code C
+    unfolding Closed Leaf Touch cut
+    cone-closed all m t = (omega (arith, low, cone-le m t), code-inside m (cone-le m t) (cone .logics m t), λ j lt. go j lt (bool (C (operandIn graph m j))))
       where
         go : (j : ℕ) → j < countIn graph m → (C (operandIn graph m j) ≡ true) ⊎ (C (operandIn graph m j) ≡ false) → (C (operandIn graph m j) ≡ true) ⊎ Leafy code (operandIn graph m j)
         go j lt (inl i) = inl i
@@ -156,7 +156,7 @@ module _ {S : Sheet} {may : ℕ → Bool} {v : ℕ} {graph code : List ℕ} (ask
   units-few : {above : List ℕ} {f : ℕ} → Valued graph code above v f → (c : List ℕ) → AllowedCut S may v c → f ≤ length c
   units-few value c a =
       let C = a .cone in
-      let l = units-least low value C (cone-legal C (a .isCone) (subst (All (λ u. may u ≡ true)) (a .isCut) (a .allowed))) (a .isCone .holds)
+      let l = units-least low value C (cone-closed C (a .isCone) (subst (All (λ u. may u ≡ true)) (a .isCut) (a .allowed))) (a .isCone .holds)
       (λ x. bit (leaf S C x)) (λ x lt h. omega (arith, ap bit (leaf-in C (cone-low C (a .isCone)) x h))) in
       let n = length-rising (leaf S C) 256 in
       let e = ap length (a .isCut ∙ cut-rising C) in
@@ -176,32 +176,32 @@ module _ {S : Sheet} {may : ℕ → Bool} {v : ℕ} {graph code : List ℕ} (ask
     R-low m t = omega (arith, joined-le S ord (member s) v (asked .node) marks-root m t, asked .node)
 
     R-cone : Cone S v R
-    unfolding R Legal
+    unfolding R Closed
     R-cone = record {
       holds = joined-root S ord (member s) v (asked .node) marks-root;
       logics = λ u t. code-logic u (joined-le S ord (member s) v (asked .node) marks-root u t)
-          (settled-legal falling low settled u (joined-in S ord (member s) v (asked .node) marks-root u t) .1);
+          (settled-closed falling low settled u (joined-in S ord (member s) v (asked .node) marks-root u t) .1);
       joined = joined-path S ord (member s) v (asked .node) marks-root;
     }
 
     -- a leaf of R is one of the marks
     R-leaf : (x : ℕ) → Leaf graph R x → Leaf graph (member s) x
     unfolding R Leaf Touch
-    R-leaf x h = (⊎-elim (λ t. absurd (differ (R x) (closed t) (h .0))) (λ n. n) (bool (member s x)), (m, h .1 .1, joined-in S ord (member s) v (asked .node) marks-root m (h .1 .2), h .1 .3, h .1 .4))
+    R-leaf x h = (⊎-elim (λ t. absurd (differ (R x) (whole t) (h .0))) (λ n. n) (bool (member s x)), (m, h .1 .1, joined-in S ord (member s) v (asked .node) marks-root m (h .1 .2), h .1 .3, h .1 .4))
       where
         m : ℕ
         m = h .1 .0
 
-        closed : member s x ≡ true → R x ≡ true
-        closed t =
-            joined-closed S ord (member s) v (asked .node) marks-root m x (h .1 .2)
+        whole : member s x ≡ true → R x ≡ true
+        whole t =
+            joined-whole S ord (member s) v (asked .node) marks-root m x (h .1 .2)
             (subst (λ (u : ℕ). reads S m u ≡ true) (h .1 .4) (reads-in m (h .1 .1) (omega (arith, few, R-low m (h .1 .2))) (h .1 .3))) t
 
-    R-legal : Legal graph code R
-    unfolding R Legal
-    R-legal m t =
-        let l = settled-legal falling low settled m (joined-in S ord (member s) v (asked .node) marks-root m t) in
-        (l .0, l .1, λ j lt. ⊎-elim (λ h. inl (joined-closed S ord (member s) v (asked .node) marks-root m (operandIn graph m j) t (reads-in m j (l .0) lt) h)) inr (l .2 j lt))
+    R-closed : Closed graph code R
+    unfolding R Closed
+    R-closed m t =
+        let l = settled-closed falling low settled m (joined-in S ord (member s) v (asked .node) marks-root m t) in
+        (l .0, l .1, λ j lt. ⊎-elim (λ h. inl (joined-whole S ord (member s) v (asked .node) marks-root m (operandIn graph m j) t (reads-in m j (l .0) lt) h)) inr (l .2 j lt))
 
     R-marked : (x : ℕ) → x < 256 → leaf S R x ≡ true → leafMark s x ≡ true
     R-marked x lt t = leaf-mark falling low settled x lt (R-leaf x (leaf-out R x t .0))
@@ -220,18 +220,18 @@ module _ {S : Sheet} {may : ℕ → Bool} {v : ℕ} {graph code : List ℕ} (ask
         few-marks =
             let n = length-rising (leafMark s) 256 in
             let e = marks-size falling low settled in
-            let l = units-least low (settled .value) R R-legal (R-cone .holds) (λ x. bit (leaf S R x)) (λ x lt h. omega (arith, ap bit (leaf-in R R-low x h))) in
+            let l = units-least low (settled .value) R R-closed (R-cone .holds) (λ x. bit (leaf S R x)) (λ x lt h. omega (arith, ap bit (leaf-in R R-low x h))) in
             omega arith
 
     marks-cut : rising (leafMark s) 256 ≡ cut S R
     marks-cut = rising-same (leafMark s) (leaf S R) 256 (λ x lt. same-test (leafMark s x) (leaf S R x) (marked-R x lt) (R-marked x lt)) ∙ sym (cut-rising R)
 
     R-may : (x : ℕ) → leaf S R x ≡ true → may x ≡ true
-    unfolding Legal Leaf Touch
+    unfolding Closed Leaf Touch
     R-may x t =
         let h = leaf-out R x t .0 in
         let m = h .1 .0 in
-        let l = R-legal m (h .1 .2) in
+        let l = R-closed m (h .1 .2) in
         let f = ord m x (subst (λ (u : ℕ). reads S m u ≡ true) (h .1 .4) (reads-in m (h .1 .1) (l .0) (h .1 .3))) in
         let le = path-le S ord v R R-cone (R-cone .joined m (h .1 .2)) in
         ⊎-elim (λ i. absurd (differ (R x) (subst (λ (u : ℕ). R u ≡ true) (h .1 .4) i) (h .0)))
@@ -270,5 +270,5 @@ module _ {S : Sheet} {may : ℕ → Bool} {v : ℕ} {graph code : List ℕ} (ask
           → (rising (leafMark s) 256 ≡ o) ⊎ (before (rising (leafMark s) 256) o ≡ true)
       first o C cone q all e =
           subst (λ (l : List ℕ). (rising (leafMark s) 256 ≡ l) ⊎ (before (rising (leafMark s) 256) l ≡ true)) (sym q)
-          (final-first falling low fin C (leaf S C) (cone-legal C cone all) (cone .holds) (λ x lt h. leaf-in C (cone-low C cone) x h)
+          (final-first falling low fin C (leaf S C) (cone-closed C cone all) (cone .holds) (λ x lt h. leaf-in C (cone-low C cone) x h)
           (sym (ap length q) ∙ e ∙ marks-length falling (fin .settled)))

@@ -1,4 +1,8 @@
 -- The part of a set of nodes that has a path to v inside the set.
+-- A failed search goes back along units of flow, and so takes nodes inside that may have no path to v there; every member of a cone has one.
+-- The part with a path is a cone. If an operand of one of its members is in the set, it has a path too (`joined-whole`), so each leaf of the part
+-- is a leaf of the whole set. The part is closed and holds v, so by weak duality it has no fewer leaves than the flow has units, and the whole set
+-- has just as many: their leaves are the same, and the marks' leaves are the cut of a cone (`marks-cut` in Bridge).
 use mathlib.Core.Path.{_≡_, refl, sym, ap, _∙_, subst}
 use mathlib.Core.Logic.{_⊎_, inl, inr}
 use mathlib.Core.Bool.{Bool, true, _&&_, _||_}
@@ -115,9 +119,9 @@ module _ (S : Sheet) (ordered : Ordered S) (C : ℕ → Bool) (v : ℕ) (low : v
   joined-path u t = reach-path v u (omega arith) t
 
   -- an operand that C holds of a joined node is joined
-  pub joined-closed : (m u : ℕ) → joined S C v m ≡ true → reads S m u ≡ true → C u ≡ true → joined S C v u ≡ true
+  pub joined-whole : (m u : ℕ) → joined S C v m ≡ true → reads S m u ≡ true → C u ≡ true → joined S C v u ≡ true
   unfolding joined
-  joined-closed m u t r c =
+  joined-whole m u t r c =
       let f = ordered m u r in
       let l = reach-le v m t in
       reach-more (suc (v - m)) v u (omega arith) (reach-step (v - m) m u (reach-tight v m t) r c)

@@ -12,11 +12,11 @@ use lib.Seq.{getD-set-same, getD-set-other}
 use lib.Dec.{eqb}
 use borrow.Author.Tests.{ne-eqb}
 use Rattle.sheet.specs.Table.{countIn, operandIn}
-use Rattle.cut.specs.Search.{at, Legal, Inside, Touch, Under, Link, Flow, bit, count, zero?, zeros, Seen, Entered, OutDone, NewDone, Blocked, Pushed, Ends}
+use Rattle.cut.specs.Search.{cell, Closed, Inside, Touch, Under, Link, Flow, bit, count, zero?, zeros, Seen, Entered, OutDone, NewDone, Blocked, Pushed, Ends}
 
 -- ---- a mark
 
-pub zeros-mark : (l : List ℕ) (i : ℕ) → i < length l → at l i ≡ 0 → zeros (set l i 1) + 1 ≡ zeros l
+pub zeros-mark : (l : List ℕ) (i : ℕ) → i < length l → cell l i ≡ 0 → zeros (set l i 1) + 1 ≡ zeros l
 unfolding zeros
 zeros-mark [] i h e = absurd (not-suc-le-zero h)
 zeros-mark (a ∷ l) zero h e = let z : zero? a ≡ 1 = ap zero? e in omega arith
@@ -29,7 +29,7 @@ mark-grows : (l : List ℕ) (k i : ℕ) → k < length l → Seen l i → Seen (
 mark-grows l k i h s e = go (ℕ-discrete i k)
   where
     go : Dec (i ≡ k) → ⊥
-    go (yes p) = marked l k h (subst (λ (n : ℕ). at (set l k 1) n ≡ 0) p e)
+    go (yes p) = marked l k h (subst (λ (n : ℕ). cell (set l k 1) n ≡ 0) p e)
     go (no f) = s (sym (getD-set-other l k i 1 0 f) ∙ e)
 
 -- ---- what is done stays done
@@ -45,34 +45,34 @@ done-none : (graph code s above : List ℕ) → NewDone graph code s s above
 done-none graph code s above = record { out = λ u lt z n. absurd (n z); inn = λ u lt z n. absurd (n z) }
 
 done-trans : (graph code s s′ s″ above : List ℕ) → ((i : ℕ) → Seen s′ i → Seen s″ i) → NewDone graph code s s′ above → NewDone graph code s′ s″ above → NewDone graph code s s″ above
-done-trans graph code s s′ s″ above g d d′ = record { out = λ u lt z n. out u lt z n (ℕ-discrete (at s′ u) 0); inn = λ u lt z n. inn u lt z n (ℕ-discrete (at s′ (u + 256)) 0) }
+done-trans graph code s s′ s″ above g d d′ = record { out = λ u lt z n. out u lt z n (ℕ-discrete (cell s′ u) 0); inn = λ u lt z n. inn u lt z n (ℕ-discrete (cell s′ (u + 256)) 0) }
   where
-    out : (u : ℕ) → u < 256 → at s u ≡ 0 → Seen s″ u → Dec (at s′ u ≡ 0) → OutDone graph code s″ above u
+    out : (u : ℕ) → u < 256 → cell s u ≡ 0 → Seen s″ u → Dec (cell s′ u ≡ 0) → OutDone graph code s″ above u
     out u lt z n (yes e) = d′ .out u lt e n
     out u lt z n (no f) = done-grows graph code s′ s″ above u g (d .out u lt z f)
 
-    inn : (u : ℕ) → u < 256 → at s (u + 256) ≡ 0 → Seen s″ (u + 256) → Dec (at s′ (u + 256) ≡ 0) → Seen s″ (at above u)
+    inn : (u : ℕ) → u < 256 → cell s (u + 256) ≡ 0 → Seen s″ (u + 256) → Dec (cell s′ (u + 256) ≡ 0) → Seen s″ (cell above u)
     inn u lt z n (yes e) = d′ .inn u lt e n
-    inn u lt z n (no f) = g (at above u) (d .inn u lt z f)
+    inn u lt z n (no f) = g (cell above u) (d .inn u lt z f)
 
 -- after a mark at k, which is then done itself
 done-mark : (graph code s s′ above : List ℕ) (k : ℕ) → NewDone graph code (set s k 1) s′ above
     → ((u : ℕ) → u < 256 → u ≡ k → OutDone graph code s′ above u)
-    → ((u : ℕ) → u < 256 → u + 256 ≡ k → Seen s′ (at above u))
+    → ((u : ℕ) → u < 256 → u + 256 ≡ k → Seen s′ (cell above u))
     → NewDone graph code s s′ above
 done-mark graph code s s′ above k d o i = record { out = λ u lt z n. out u lt z n (ℕ-discrete u k); inn = λ u lt z n. inn u lt z n (ℕ-discrete (u + 256) k) }
   where
-    out : (u : ℕ) → u < 256 → at s u ≡ 0 → Seen s′ u → Dec (u ≡ k) → OutDone graph code s′ above u
+    out : (u : ℕ) → u < 256 → cell s u ≡ 0 → Seen s′ u → Dec (u ≡ k) → OutDone graph code s′ above u
     out u lt z n (yes e) = o u lt e
     out u lt z n (no f) = d .out u lt (getD-set-other s k u 1 0 f ∙ z) n
 
-    inn : (u : ℕ) → u < 256 → at s (u + 256) ≡ 0 → Seen s′ (u + 256) → Dec (u + 256 ≡ k) → Seen s′ (at above u)
+    inn : (u : ℕ) → u < 256 → cell s (u + 256) ≡ 0 → Seen s′ (u + 256) → Dec (u + 256 ≡ k) → Seen s′ (cell above u)
     inn u lt z n (yes e) = i u lt e
     inn u lt z n (no f) = d .inn u lt (getD-set-other s k (u + 256) 1 0 f ∙ z) n
 
 -- ---- a store
 
-pub count-set : (u w : ℕ) (l : List ℕ) (i : ℕ) → i < length l → count u (set l i w) + bit (eqb (at l i) u) ≡ count u l + bit (eqb w u)
+pub count-set : (u w : ℕ) (l : List ℕ) (i : ℕ) → i < length l → count u (set l i w) + bit (eqb (cell l i) u) ≡ count u l + bit (eqb w u)
 unfolding count
 count-set u w [] i h = absurd (not-suc-le-zero h)
 count-set u w (a ∷ l) zero h = omega arith
@@ -82,19 +82,19 @@ count-set u w (a ∷ l) (suc i) h = let ih = count-set u w l i (le-of-suc-le-suc
 
 pub under-self : (graph code : List ℕ) (a : ℕ) → Under graph code a a
 unfolding Under
-under-self graph code a C legal h = h
+under-self graph code a C closed h = h
 
 pub link-under : (graph code : List ℕ) (a p : ℕ) → Under graph code a p → Link graph code a p
 unfolding Under Link
-link-under graph code a p u C legal h = inl (u C legal h)
+link-under graph code a p u C closed h = inl (u C closed h)
 
 pub link-operand : (graph code : List ℕ) (a p j : ℕ) → Under graph code a p → j < countIn graph p → Link graph code a (operandIn graph p j)
 unfolding Under Link Touch
-link-operand graph code a p j u lt C legal h = inr (p, j, u C legal h, lt, refl)
+link-operand graph code a p j u lt C closed h = inr (p, j, u C closed h, lt, refl)
 
-pub under-link : (graph code : List ℕ) (a x : ℕ) → at code x ≡ 0 → Link graph code a x → Under graph code a x
-unfolding Under Link Touch Legal
-under-link graph code a x z l C legal h = ⊎-elim (λ e. e) (λ t. ⊎-elim (λ e. subst (λ (n : ℕ). C n ≡ true) (t .4) e) (λ f. absurd (f .0 (subst (λ (n : ℕ). at code n ≡ 0) (sym (t .4)) z))) (legal (t .0) (t .2) .2 (t .1) (t .3))) (l C legal h)
+pub under-link : (graph code : List ℕ) (a x : ℕ) → cell code x ≡ 0 → Link graph code a x → Under graph code a x
+unfolding Under Link Touch Closed
+under-link graph code a x z l C closed h = ⊎-elim (λ e. e) (λ t. ⊎-elim (λ e. subst (λ (n : ℕ). C n ≡ true) (t .4) e) (λ f. absurd (f .0 (subst (λ (n : ℕ). cell code n ≡ 0) (sym (t .4)) z))) (closed (t .0) (t .2) .2 (t .1) (t .3))) (l C closed h)
 
 -- ---- one search after another
 
@@ -116,7 +116,7 @@ module _ (graph code s s′ above above′ above″ : List ℕ) (b : Blocked gra
   push-after from p = record {
     flow = p .flow;
     more = λ u lt n. subst (λ (l : List ℕ). count u above″ ≡ count u l + bit (eqb from u)) (b .same) (p .more u lt n);
-    kept = λ x lt n. p .kept x lt (b .grow (x + 256) n) ∙ ap (λ (l : List ℕ). at l x) (b .same);
+    kept = λ x lt n. p .kept x lt (b .grow (x + 256) n) ∙ ap (λ (l : List ℕ). cell l x) (b .same);
   }
 
   block-after : (s″ : List ℕ) → Blocked graph code s′ s″ above′ above″ → Blocked graph code s s″ above above″
@@ -134,9 +134,9 @@ module _ (graph code s s′ above above′ : List ℕ) (k : ℕ) (in-s : k < len
   pub push-mark : (from : ℕ) → Pushed graph code (set s k 1) above above′ from → Pushed graph code s above above′ from
   push-mark from p = record { flow = p .flow; more = p .more; kept = λ x lt n. p .kept x lt (mark-grows s k (x + 256) in-s n) }
 
-  block-mark : at s k ≡ 0 → Blocked graph code (set s k 1) s′ above above′
+  block-mark : cell s k ≡ 0 → Blocked graph code (set s k 1) s′ above above′
       → ((u : ℕ) → u < 256 → u ≡ k → OutDone graph code s′ above u)
-      → ((u : ℕ) → u < 256 → u + 256 ≡ k → Seen s′ (at above u))
+      → ((u : ℕ) → u < 256 → u + 256 ≡ k → Seen s′ (cell above u))
       → Blocked graph code s s′ above above′
   block-mark z b o i = record {
     same = b .same;
@@ -148,30 +148,30 @@ module _ (graph code s s′ above above′ : List ℕ) (k : ℕ) (in-s : k < len
 
 -- ---- expand
 
--- a unit that leaves a node that no legal set holds leaves no trace
-push-out : (graph code s above : List ℕ) (from : ℕ) → Flow graph code above → ((C : ℕ → Bool) → Legal graph code C → C from ≡ true → ⊥) → Pushed graph code s above above from
+-- a unit that leaves a node that no closed set holds leaves no trace
+push-out : (graph code s above : List ℕ) (from : ℕ) → Flow graph code above → ((C : ℕ → Bool) → Closed graph code C → C from ≡ true → ⊥) → Pushed graph code s above above from
 push-out graph code s above from flow out = record { flow = flow; more = more; kept = λ x lt n. refl }
   where
     more : (u : ℕ) → u < 256 → Inside graph code u → count u above ≡ count u above + bit (eqb from u)
-    more u lt i = let w : bit (eqb from u) ≡ 0 = ap bit (ne-eqb from u (λ e. out (i .members) (i .legal) (ap (i .members) e ∙ i .holds))) in omega arith
+    more u lt i = let w : bit (eqb from u) ≡ 0 = ap bit (ne-eqb from u (λ e. out (i .members) (i .closed) (ap (i .members) e ∙ i .holds))) in omega arith
 
-pub expand-leaf : (graph code s above : List ℕ) (p from : ℕ) → Flow graph code above → (p ≡ from) ⊎ (at code p ≡ 0) → 3 ≤ at code p → Pushed graph code s above above from
-unfolding Legal
-expand-leaf graph code s above p from flow here three = push-out graph code s above from flow (λ C legal t. ⊎-elim (λ h. let l = legal from t .1 in let q = ap (λ (n : ℕ). at code n) h in omega arith) (λ z. omega arith) here)
+pub expand-leaf : (graph code s above : List ℕ) (p from : ℕ) → Flow graph code above → (p ≡ from) ⊎ (cell code p ≡ 0) → 3 ≤ cell code p → Pushed graph code s above above from
+unfolding Closed
+expand-leaf graph code s above p from flow here three = push-out graph code s above from flow (λ C closed t. ⊎-elim (λ h. let l = closed from t .1 in let q = ap (λ (n : ℕ). cell code n) h in omega arith) (λ z. omega arith) here)
 
-module _ (graph code s s′ above above′ : List ℕ) (p : ℕ) (low : p < 256) (in-s : p < length s) (z : at s p ≡ 0) (inside : at code p < 3)
+module _ (graph code s s′ above above′ : List ℕ) (p : ℕ) (low : p < 256) (in-s : p < length s) (z : cell s p ≡ 0) (inside : cell code p < 3)
     (b : Blocked graph code (set s p 1) s′ above above′) (all : (i : ℕ) → 0 ≤ i → i < countIn graph p → Entered code s′ (operandIn graph p i)) where
   -- no operand led on, and p carries no flow
-  pub expand-stuck : at above′ p ≡ p → (Blocked graph code s s′ above above′) × Seen s′ p
+  pub expand-stuck : cell above′ p ≡ p → (Blocked graph code s s′ above above′) × Seen s′ p
   expand-stuck still = (
     block-mark graph code s s′ above above′ p in-s z b
-        (λ u lt e. subst (λ (v : ℕ). OutDone graph code s′ above v) (sym e) (record { inside = inside; operands = λ j lt. all j (omega arith) lt; back = λ f. absurd (f (sym (ap (λ (l : List ℕ). at l p) (b .same)) ∙ still)) }))
+        (λ u lt e. subst (λ (v : ℕ). OutDone graph code s′ above v) (sym e) (record { inside = inside; operands = λ j lt. all j (omega arith) lt; back = λ f. absurd (f (sym (ap (λ (l : List ℕ). cell l p) (b .same)) ∙ still)) }))
         (λ u lt e. absurd (omega arith)),
     b .grow p (marked s p in-s),
   )
 
   -- p carries flow, which can be sent back
-  pub expand-back : (s″ above″ : List ℕ) (from : ℕ) (r : Bool) → Flow graph code above → (p ≡ from) ⊎ (at code p ≡ 0) → ((at above′ p ≡ p) → ⊥)
+  pub expand-back : (s″ above″ : List ℕ) (from : ℕ) (r : Bool) → Flow graph code above → (p ≡ from) ⊎ (cell code p ≡ 0) → ((cell above′ p ≡ p) → ⊥)
       → Ends r (Pushed graph code s′ above′ above″ p) ((Blocked graph code s′ s″ above′ above″) × Entered code s″ p)
       → Ends r (Pushed graph code s above above″ from) ((Blocked graph code s s″ above above″) × Seen s″ p)
   unfolding Entered
@@ -185,10 +185,10 @@ module _ (graph code s s′ above above′ : List ℕ) (p : ℕ) (low : p < 256)
       ))
       e
     where
-      still : (at above p ≡ p) → ⊥
-      still e = moved (ap (λ (l : List ℕ). at l p) (b .same) ∙ e)
+      still : (cell above p ≡ p) → ⊥
+      still e = moved (ap (λ (l : List ℕ). cell l p) (b .same) ∙ e)
 
-      not-zero : (at code p ≡ 0) → ⊥
+      not-zero : (cell code p ≡ 0) → ⊥
       not-zero e = still (flow .still p low e)
 
       is-from : p ≡ from
@@ -208,54 +208,54 @@ scan-more graph code s s′ s″ above above′ above″ p j from r b e d = ends
 
 -- ---- enter
 
-pub enter-late : (graph code s above : List ℕ) (x from : ℕ) → Flow graph code above → Link graph code from x → at code x ≡ 4 → Pushed graph code s above above from
-unfolding Legal Link Touch
-enter-late graph code s above x from flow link four = push-out graph code s above from flow (λ C legal t. ⊎-elim (in-set C legal) (λ m. ⊎-elim (λ e. in-set C legal (subst (λ (n : ℕ). C n ≡ true) (m .4) e)) (λ f. f .1 (ap (λ (n : ℕ). at code n) (m .4) ∙ four)) (legal (m .0) (m .2) .2 (m .1) (m .3))) (link C legal t))
+pub enter-late : (graph code s above : List ℕ) (x from : ℕ) → Flow graph code above → Link graph code from x → cell code x ≡ 4 → Pushed graph code s above above from
+unfolding Closed Link Touch
+enter-late graph code s above x from flow link four = push-out graph code s above from flow (λ C closed t. ⊎-elim (in-set C closed) (λ m. ⊎-elim (λ e. in-set C closed (subst (λ (n : ℕ). C n ≡ true) (m .4) e)) (λ f. f .1 (ap (λ (n : ℕ). cell code n) (m .4) ∙ four)) (closed (m .0) (m .2) .2 (m .1) (m .3))) (link C closed t))
   where
-    in-set : (C : ℕ → Bool) → Legal graph code C → C x ≡ true → ⊥
-    in-set C legal t = let l = legal x t .1 in omega arith
+    in-set : (C : ℕ → Bool) → Closed graph code C → C x ≡ true → ⊥
+    in-set C closed t = let l = closed x t .1 in omega arith
 
-pub entered-inside : (code s : List ℕ) (x : ℕ) → at code x ≡ 0 → Seen s x → Entered code s x
+pub entered-inside : (code s : List ℕ) (x : ℕ) → cell code x ≡ 0 → Seen s x → Entered code s x
 unfolding Entered
 entered-inside code s x z n = (λ _. n, λ nz. absurd (nz z), λ f. omega arith)
 
-pub entered-leaf : (code s : List ℕ) (x : ℕ) → ((at code x ≡ 0) → ⊥) → ((at code x ≡ 4) → ⊥) → Seen s (x + 256) → Entered code s x
+pub entered-leaf : (code s : List ℕ) (x : ℕ) → ((cell code x ≡ 0) → ⊥) → ((cell code x ≡ 4) → ⊥) → Seen s (x + 256) → Entered code s x
 unfolding Entered
 entered-leaf code s x nz nf n = (λ z. absurd (nz z), λ _. n, nf)
 
-flow-store : (graph code above : List ℕ) (x from : ℕ) → Flow graph code above → x < 256 → from < 256 → x ≤ from → Link graph code from x → ((at code x ≡ 0) → ⊥) → Flow graph code (set above x from)
+flow-store : (graph code above : List ℕ) (x from : ℕ) → Flow graph code above → x < 256 → from < 256 → x ≤ from → Link graph code from x → ((cell code x ≡ 0) → ⊥) → Flow graph code (set above x from)
 flow-store graph code above x from flow lt lf up link nz = record {
   above-len = length-set above x from ∙ flow .above-len;
   low = λ u l. low u l (ℕ-discrete u x);
   rise = λ u l. rise u l (ℕ-discrete u x);
   link = λ u l. linked u l (ℕ-discrete u x);
-  still = λ u l e. other u (λ q. nz (subst (λ (v : ℕ). at code v ≡ 0) q e)) ∙ flow .still u l e;
+  still = λ u l e. other u (λ q. nz (subst (λ (v : ℕ). cell code v ≡ 0) q e)) ∙ flow .still u l e;
 }
   where
-    here : at (set above x from) x ≡ from
+    here : cell (set above x from) x ≡ from
     here = let q = flow .above-len in getD-set-same above x from 0 (omega arith)
 
-    other : (u : ℕ) → ((u ≡ x) → ⊥) → at (set above x from) u ≡ at above u
+    other : (u : ℕ) → ((u ≡ x) → ⊥) → cell (set above x from) u ≡ cell above u
     other u f = getD-set-other above x u from 0 f
 
-    low : (u : ℕ) → u < 256 → Dec (u ≡ x) → at (set above x from) u < 256
+    low : (u : ℕ) → u < 256 → Dec (u ≡ x) → cell (set above x from) u < 256
     low u l (yes e) = rw (e, here) lf
     low u l (no f) = rw (other u f) (flow .low u l)
 
-    rise : (u : ℕ) → u < 256 → Dec (u ≡ x) → u ≤ at (set above x from) u
+    rise : (u : ℕ) → u < 256 → Dec (u ≡ x) → u ≤ cell (set above x from) u
     rise u l (yes e) = rw (e, here) up
     rise u l (no f) = rw (other u f) (flow .rise u l)
 
-    linked : (u : ℕ) → u < 256 → Dec (u ≡ x) → Link graph code (at (set above x from) u) u
+    linked : (u : ℕ) → u < 256 → Dec (u ≡ x) → Link graph code (cell (set above x from) u) u
     linked u l (yes e) = rw (e, here) link
     linked u l (no f) = rw (other u f) (flow .link u l)
 
-module _ (graph code s s′ above above′ : List ℕ) (x from : ℕ) (low : x < 256) (in-s : x + 256 < length s) (z : at s (x + 256) ≡ 0) (nz : (at code x ≡ 0) → ⊥) (nf : (at code x ≡ 4) → ⊥) where
-  pub enter-push : from < 256 → x ≤ from → Link graph code from x → Pushed graph code (set s (x + 256) 1) above above′ (at above x) → Pushed graph code s above (set above′ x from) from
+module _ (graph code s s′ above above′ : List ℕ) (x from : ℕ) (low : x < 256) (in-s : x + 256 < length s) (z : cell s (x + 256) ≡ 0) (nz : (cell code x ≡ 0) → ⊥) (nf : (cell code x ≡ 4) → ⊥) where
+  pub enter-push : from < 256 → x ≤ from → Link graph code from x → Pushed graph code (set s (x + 256) 1) above above′ (cell above x) → Pushed graph code s above (set above′ x from) from
   enter-push lf up link p = record { flow = flow-store graph code above′ x from (p .flow) low lf up link nz; more = more; kept = λ u l n. kept u l n (ℕ-discrete u x) }
     where
       -- x was entered, so the search kept what stands there
-      held : at above′ x ≡ at above x
+      held : cell above′ x ≡ cell above x
       held = p .kept x low (marked s (x + 256) in-s)
 
       more : (u : ℕ) → u < 256 → Inside graph code u → count u (set above′ x from) ≡ count u above + bit (eqb from u)
@@ -266,14 +266,14 @@ module _ (graph code s s′ above above′ : List ℕ) (x from : ℕ) (low : x <
           let d = ap (λ (v : ℕ). bit (eqb v u)) held in
           omega arith
 
-      kept : (u : ℕ) → u < 256 → Seen s (u + 256) → Dec (u ≡ x) → at (set above′ x from) u ≡ at above u
-      kept u l n (yes e) = absurd (n (ap (λ (v : ℕ). at s (v + 256)) e ∙ z))
+      kept : (u : ℕ) → u < 256 → Seen s (u + 256) → Dec (u ≡ x) → cell (set above′ x from) u ≡ cell above u
+      kept u l n (yes e) = absurd (n (ap (λ (v : ℕ). cell s (v + 256)) e ∙ z))
       kept u l n (no f) = getD-set-other above′ x u from 0 f ∙ p .kept u l (mark-grows s (x + 256) (u + 256) in-s n)
 
-  pub enter-block : Blocked graph code (set s (x + 256) 1) s′ above above′ → Seen s′ (at above x) → (Blocked graph code s s′ above above′) × Entered code s′ x
+  pub enter-block : Blocked graph code (set s (x + 256) 1) s′ above above′ → Seen s′ (cell above x) → (Blocked graph code s s′ above above′) × Entered code s′ x
   enter-block b n = (
     block-mark graph code s s′ above above′ (x + 256) in-s z b
-        (λ u lt e. absurd (omega arith)) (λ u lt e. subst (λ (v : ℕ). Seen s′ (at above v)) (sym (cancel u e)) n),
+        (λ u lt e. absurd (omega arith)) (λ u lt e. subst (λ (v : ℕ). Seen s′ (cell above v)) (sym (cancel u e)) n),
     entered-leaf code s′ x nz nf (b .grow (x + 256) (marked s (x + 256) in-s)),
   )
     where

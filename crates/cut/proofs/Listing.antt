@@ -11,19 +11,19 @@ use lib.ListN.{length, set, take, length-set}
 use lib.Seq.{ext-getD, take-suc, take-set-le, getD-set-same, getD-set-other}
 use Rattle.maps.specs.Lists.{keep, below}
 use Rattle.maps.proofs.Member.{keep-append}
-use Rattle.cut.specs.Search.{at, bit, Seen, leafMark, single, rising, Turned, held, grown, Blocked, Pushed}
+use Rattle.cut.specs.Search.{cell, bit, Seen, leafMark, single, rising, Turned, held, grown, Blocked, Pushed}
 use Rattle.cut.proofs.Bools.{bool}
 use Rattle.cut.proofs.Sums.{length-turn}
 
 -- one more element is written
-pub filled-more : (f : ℕ → ℕ) (l : List ℕ) (i : ℕ) → i < length l → ((j : ℕ) → j < i → at l j ≡ f j) → (j : ℕ) → j < i + 1 → at (set l i (f i)) j ≡ f j
+pub filled-more : (f : ℕ → ℕ) (l : List ℕ) (i : ℕ) → i < length l → ((j : ℕ) → j < i → cell l j ≡ f j) → (j : ℕ) → j < i + 1 → cell (set l i (f i)) j ≡ f j
 filled-more f l i lt h j below = go (ℕ-discrete j i)
   where
-    go : Dec (j ≡ i) → at (set l i (f i)) j ≡ f j
+    go : Dec (j ≡ i) → cell (set l i (f i)) j ≡ f j
     go (yes e) = rw e (getD-set-same l i (f i) 0 lt)
     go (no n) = getD-set-other l i j (f i) 0 n ∙ h j (omega arith)
 
-pub copied : (a b : List ℕ) (i : ℕ) → length b ≡ length a → length a ≤ i → ((j : ℕ) → j < i → at b j ≡ at a j) → b ≡ a
+pub copied : (a b : List ℕ) (i : ℕ) → length b ≡ length a → length a ≤ i → ((j : ℕ) → j < i → cell b j ≡ cell a j) → b ≡ a
 copied a b i len le h = ext-getD 0 b a len (λ j lt. h j (omega arith))
 
 pub note-same : (s cut : List ℕ) (x n : ℕ) → leafMark s x ≡ false → (n ≡ n + bit (leafMark s x)) × (take n cut ≡ take n cut ++ single (leafMark s x) x)
@@ -34,7 +34,7 @@ note-more s cut x n e lt = (
   (let z = ap bit e in omega arith),
   ap (λ (m : ℕ). take m (set cut n x)) (add-one n)
       ∙ take-suc (set cut n x) n 0 (let l = length-set cut n x in omega arith)
-      ∙ ap (λ (l : List ℕ). l ++ (at (set cut n x) n ∷ [])) (take-set-le n cut n x (omega arith))
+      ∙ ap (λ (l : List ℕ). l ++ (cell (set cut n x) n ∷ [])) (take-set-le n cut n x (omega arith))
       ∙ ap (λ (y : ℕ). take n cut ++ (y ∷ [])) (getD-set-same cut n x 0 lt)
       ∙ sym (ap (λ (b : Bool). take n cut ++ single b x) e),
 )

@@ -9,7 +9,7 @@ use native.Mathlib.Omega.{arith}
 use lib.ListN.{length, length-append}
 use lib.Dec.{eqb, ltb}
 use borrow.Author.Tests.{eq-eqb, ne-eqb, lt-ltb, le-ltb}
-use Rattle.cut.specs.Search.{at, bit, gate, count, single, rising}
+use Rattle.cut.specs.Search.{cell, bit, gate, count, single, rising}
 
 unfoldable pub sum : (ℕ → ℕ) → ℕ → ℕ
 sum f zero = 0
@@ -55,10 +55,10 @@ abbrev pub hits : (ℕ → Bool) → List ℕ → ℕ
 hits C [] = 0
 hits C (a ∷ l) = bit (C a) + hits C l
 
-pub hits-sum : (C : ℕ → Bool) (l : List ℕ) → hits C l ≡ sum (λ x. bit (C (at l x))) (length l)
+pub hits-sum : (C : ℕ → Bool) (l : List ℕ) → hits C l ≡ sum (λ x. bit (C (cell l x))) (length l)
 unfolding sum
 hits-sum C [] = refl
-hits-sum C (a ∷ l) = let ih = hits-sum C l in let h = sum-head (λ x. bit (C (at (a ∷ l) x))) (length l) in omega arith
+hits-sum C (a ∷ l) = let ih = hits-sum C l in let h = sum-head (λ x. bit (C (cell (a ∷ l) x))) (length l) in omega arith
 
 pub gate-add : (b : Bool) (m n : ℕ) → gate b (m + n) ≡ gate b m + gate b n
 gate-add true m n = refl
@@ -73,7 +73,7 @@ gate-one true = refl
 gate-one false = refl
 
 -- the elements that lie in C, counted by their values
-pub hits-count : (C : ℕ → Bool) (l : List ℕ) (n : ℕ) → ((x : ℕ) → x < length l → at l x < n) → sum (λ p. gate (C p) (count p l)) n ≡ hits C l
+pub hits-count : (C : ℕ → Bool) (l : List ℕ) (n : ℕ) → ((x : ℕ) → x < length l → cell l x < n) → sum (λ p. gate (C p) (count p l)) n ≡ hits C l
 unfolding count
 hits-count C [] n low = sum-none (λ p. gate (C p) 0) n (λ x lt. gate-zero (C x))
 hits-count C (a ∷ l) n low =
@@ -105,10 +105,10 @@ sum-count (a ∷ l) n =
     let o = once a n in
     omega arith
 
-pub count-sum : (u : ℕ) (l : List ℕ) → count u l ≡ sum (λ x. bit (eqb (at l x) u)) (length l)
+pub count-sum : (u : ℕ) (l : List ℕ) → count u l ≡ sum (λ x. bit (eqb (cell l x) u)) (length l)
 unfolding count sum
 count-sum u [] = refl
-count-sum u (a ∷ l) = let ih = count-sum u l in let h = sum-head (λ x. bit (eqb (at (a ∷ l) x) u)) (length l) in omega arith
+count-sum u (a ∷ l) = let ih = count-sum u l in let h = sum-head (λ x. bit (eqb (cell (a ∷ l) x) u)) (length l) in omega arith
 
 abbrev pub pick : Bool → ℕ → ℕ → ℕ
 pick true a b = a

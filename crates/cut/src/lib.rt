@@ -8,20 +8,35 @@ ghost use mathlib.Core.Bool.{Bool};
 ghost use mathlib.Core.List.{_++_};
 ghost use Prim.Native.Nat.{ℕ, _+_, _<_, _≤_};
 ghost use lib.ListN.{length, take};
-ghost use Rattle.maps.specs.Sheet.{Sheet};
+ghost use Rattle.maps.specs.Sheet.{Sheet, isLogic};
+ghost use Rattle.maps.specs.Code.{kindMeant};
 ghost use Rattle.sheet.specs.Table.{countIn, operandIn, Falling};
 ghost use Rattle.cut.specs.Question.{AllowedCut, Fewest, Best, codeFor, Asked};
-ghost use Rattle.cut.specs.Search.{at, Ready, Under, Link, Searched, Seen, Entered, Flow, Augmented, Settled, Final, Turned, bit, leafMark, single, rising};
+ghost use Rattle.cut.specs.Search.{cell, Startable, Under, Link, Searched, Seen, Entered, Flow, Augmented, Settled, Final, Turned, bit, leafMark, single, rising};
+use maps::Kind;
+use sheet::Graph;
+use sheet::count_in;
+use sheet::operand_in;
 
 mod quick;
 
 pub use quick::ask;
 
-// The code of a node other than v.
-pub fn code_for(logic: bool, may: bool) -> u8
-    ensures { λ r. ⌜ r ≡ codeFor logic may ⌝ }
+fn is_logic(kind: Kind) -> bool
+    ensures { λ r. ⌜ r ≡ isLogic (kindMeant kind) ⌝ }
 {
-    if logic {
+    match kind {
+        Kind::Logic => true,
+        Kind::Input => false,
+        Kind::Box { latency: _ } => false,
+    }
+}
+
+// The code of a node other than v.
+pub fn code_for(kind: Kind, may: bool) -> u8
+    ensures { λ r. ⌜ r ≡ codeFor (isLogic (kindMeant kind)) may ⌝ }
+{
+    if is_logic(kind) {
         if may { 1 } else { 0 }
     } else {
         if may { 3 } else { 4 }
@@ -30,16 +45,16 @@ pub fn code_for(logic: bool, may: bool) -> u8
 
 // Searches on from p, which is inside, for a unit that leaves `from`: down to the operands of p, then back along the unit that p carries.
 fn expand(
-    graph: &[u32; 3072],
+    graph: &Graph,
     code: &[u8; 256],
     seen: &mut [u8; 512],
     above: &mut [u32; 256],
     p: u32,
     from: u32,
 ) -> bool
-    requires { ⌜ Ready (now graph) (now code) (now seen) (now above) p from ⌝ }
+    requires { ⌜ Startable (now graph) (now code) (now seen) (now above) p from ⌝ }
     requires { ⌜ Under (now graph) (now code) from p ⌝ }
-    requires { ⌜ (p ≡ from) ⊎ (at (now code) p ≡ 0) ⌝ }
+    requires { ⌜ (p ≡ from) ⊎ (cell (now code) p ≡ 0) ⌝ }
     ensures { λ r. ⌜ Searched r (now (graph .entry)) (now (code .entry)) (now (seen .entry)) (now (seen .exit)) (now (above .entry)) (now (above .exit)) from
         (Seen (now (seen .exit)) p) ⌝ }
 {
@@ -62,7 +77,7 @@ fn expand(
 
 // Enters the operands of p from the jth on.
 fn scan(
-    graph: &[u32; 3072],
+    graph: &Graph,
     code: &[u8; 256],
     seen: &mut [u8; 512],
     above: &mut [u32; 256],
@@ -70,16 +85,15 @@ fn scan(
     j: u32,
     from: u32,
 ) -> bool
-    requires { ⌜ Ready (now graph) (now code) (now seen) (now above) p from ⌝ }
+    requires { ⌜ Startable (now graph) (now code) (now seen) (now above) p from ⌝ }
     requires { ⌜ Under (now graph) (now code) from p ⌝ }
     ensures { λ r. ⌜ Searched r (now (graph .entry)) (now (code .entry)) (now (seen .entry)) (now (seen .exit)) (now (above .entry)) (now (above .exit)) from
         ((i : ℕ) → j ≤ i → i < countIn (now (graph .entry)) p → Entered (now (code .entry)) (now (seen .exit)) (operandIn (now (graph .entry)) p i)) ⌝ }
 {
-    let base = p as usize * 12;
-    if graph[base + 4] <= j {
+    if count_in(graph, p) <= j {
         return false;
     }
-    let y = graph[base + 5 + j as usize];
+    let y = operand_in(graph, p, j);
     if enter(graph, code, seen, above, y, from) {
         return true;
     }
@@ -88,14 +102,14 @@ fn scan(
 
 // Enters x from above, with a unit that leaves `from`. A unit that x carries already must find another way.
 fn enter(
-    graph: &[u32; 3072],
+    graph: &Graph,
     code: &[u8; 256],
     seen: &mut [u8; 512],
     above: &mut [u32; 256],
     x: u32,
     from: u32,
 ) -> bool
-    requires { ⌜ Ready (now graph) (now code) (now seen) (now above) x from ⌝ }
+    requires { ⌜ Startable (now graph) (now code) (now seen) (now above) x from ⌝ }
     requires { ⌜ Link (now graph) (now code) from x ⌝ }
     ensures { λ r. ⌜ Searched r (now (graph .entry)) (now (code .entry)) (now (seen .entry)) (now (seen .exit)) (now (above .entry)) (now (above .exit)) from
         (Entered (now (code .entry)) (now (seen .exit)) x) ⌝ }
@@ -123,7 +137,7 @@ fn enter(
 
 // Sets every byte of s to 0.
 fn clear(s: &mut [u8])
-    ensures { λ _. ⌜ ((i : ℕ) → at (now (s .exit)) i ≡ 0) ⌝ }
+    ensures { λ _. ⌜ ((i : ℕ) → cell (now (s .exit)) i ≡ 0) ⌝ }
 {
     let mut i = 0;
     while i < s.len() {
@@ -135,7 +149,7 @@ fn clear(s: &mut [u8])
 // The empty flow: each node names itself.
 fn start(a: &mut [u32])
     requires { ⌜ length (now a) ≡ 256 ⌝ }
-    ensures { λ _. ⌜ ((i : ℕ) → i < 256 → at (now (a .exit)) i ≡ i) ⌝ }
+    ensures { λ _. ⌜ ((i : ℕ) → i < 256 → cell (now (a .exit)) i ≡ i) ⌝ }
 {
     let mut i: u32 = 0;
     while i < 256 {
@@ -146,7 +160,7 @@ fn start(a: &mut [u32])
 
 // Sends units from v along augmenting paths, until a search fails or k + 1 units flow; the number of units.
 fn augment(
-    graph: &[u32; 3072],
+    graph: &Graph,
     code: &[u8; 256],
     seen: &mut [u8; 512],
     above: &mut [u32; 256],
@@ -196,7 +210,7 @@ fn copy_flow(a: &[u32], b: &mut [u32])
 
 // Searches on from x, if it is a leaf of the marks, and keeps the new marks where that search fails.
 fn turn(
-    graph: &[u32; 3072],
+    graph: &Graph,
     code: &[u8; 256],
     seen: &mut [u8; 512],
     above: &[u32; 256],
@@ -227,7 +241,7 @@ fn turn(
 
 // Takes inside every leaf that can be without more leaves, ids falling: the minimum cut nearest the inputs.
 fn deepen(
-    graph: &[u32; 3072],
+    graph: &Graph,
     code: &[u8; 256],
     seen: &mut [u8; 512],
     above: &[u32; 256],
@@ -279,46 +293,34 @@ fn collect(seen: &[u8; 512], cut: &mut [u32; 8]) -> u32
 }
 
 // Writes an allowed cut of v with at most k leaves, by augmenting paths; its length, or k + 1 where there is none.
-fn search_cut(
-    graph: &[u32; 3072],
-    code: &[u8; 256],
-    seen: &mut [u8; 512],
-    above: &mut [u32; 256],
-    cut: &mut [u32; 8],
-    v: u32,
-    k: u32,
-) -> u32
+fn search_cut(graph: &Graph, code: &[u8; 256], cut: &mut [u32; 8], v: u32, k: u32) -> u32
     requires { ⌜ Falling (now graph) ⌝ }
     requires { ⌜ (v < 256) × (k < 8) ⌝ }
     ensures { λ r. ⌜ ((S : Sheet) (may : ℕ → Bool) → Asked S may v (now (graph .entry)) (now (code .entry)) → (r ≤ k → AllowedCut S may v (take r (now (cut .exit)))) × (k < r → Fewest S may v k r)) ⌝ }
 {
-    let f = augment(graph, code, seen, above, v, k);
+    let mut seen = [0u8; 512];
+    let mut above = [0u32; 256];
+    let f = augment(graph, code, &mut seen, &mut above, v, k);
     if f > k {
         return f;
     }
-    collect(seen, cut)
+    collect(&seen, cut)
 }
 
 // Writes the chosen one of the allowed cuts of v; its length, or k + 1 where every allowed cut has more than k leaves, or there is none.
-pub fn choose(
-    graph: &[u32; 3072],
-    code: &[u8; 256],
-    seen: &mut [u8; 512],
-    above: &mut [u32; 256],
-    seen2: &mut [u8; 512],
-    above2: &mut [u32; 256],
-    cut: &mut [u32; 8],
-    v: u32,
-    k: u32,
-) -> u32
+pub fn choose(graph: &Graph, code: &[u8; 256], cut: &mut [u32; 8], v: u32, k: u32) -> u32
     requires { ⌜ Falling (now graph) ⌝ }
     requires { ⌜ (v < 256) × (k ≤ 8) ⌝ }
     ensures { λ r. ⌜ ((S : Sheet) (may : ℕ → Bool) → Asked S may v (now (graph .entry)) (now (code .entry)) → (r ≤ k → Best S may v (take r (now (cut .exit)))) × Fewest S may v k r) ⌝ }
 {
-    let f = augment(graph, code, seen, above, v, k);
+    let mut seen = [0u8; 512];
+    let mut above = [0u32; 256];
+    let f = augment(graph, code, &mut seen, &mut above, v, k);
     if f > k {
         return f;
     }
-    deepen(graph, code, seen, above, seen2, above2, v);
-    collect(seen, cut)
+    let mut seen2 = [0u8; 512];
+    let mut above2 = [0u32; 256];
+    deepen(graph, code, &mut seen, &above, &mut seen2, &mut above2, v);
+    collect(&seen, cut)
 }

@@ -8,6 +8,8 @@ ghost use Rattle.sheet.specs.Table.{Falling};
 ghost use Rattle.cut.specs.Question.{AllowedCut, Fewest, Asked};
 ghost use Rattle.cut.specs.Quick.{insideMark, InsideMarked, AllLeaves};
 use crate::search_cut;
+use cone::cut_fits;
+use sheet::Graph;
 
 // The mark of a node by its code: 1 if it must be inside.
 fn inside_mark(code: u8) -> u8
@@ -53,27 +55,18 @@ fn all_leaves(code: &[u8; 256], cut: &[u32; 8], r: u32) -> bool
 }
 
 // Writes an allowed cut of v with at most k leaves; its length, or k + 1 where there is none.
-pub fn ask(
-    graph: &[u32; 3072],
-    code: &[u8; 256],
-    seen: &mut [u8; 512],
-    above: &mut [u32; 256],
-    cut: &mut [u32; 8],
-    v: u32,
-    k: u32,
-) -> u32
+pub fn ask(graph: &Graph, code: &[u8; 256], cut: &mut [u32; 8], v: u32, k: u32) -> u32
     requires { ⌜ Falling (now graph) ⌝ }
     requires { ⌜ (v < 256) × (k < 8) ⌝ }
     ensures { λ r. ⌜ ((S : Sheet) (may : ℕ → Bool) → Asked S may v (now (graph .entry)) (now (code .entry)) → (r ≤ k → AllowedCut S may v (take r (now (cut .exit)))) × (k < r → Fewest S may v k r)) ⌝ }
 {
     let mut marks = [0u8; 256];
-    let mut part = [0u8; 256];
     mark_inside(code, &mut marks, v);
-    let r = cone::cut_fits(graph, &marks, &mut part, cut, v, k);
+    let r = cut_fits(graph, &marks, cut, v, k);
     if r <= k {
         if all_leaves(code, cut, r) {
             return r;
         }
     }
-    search_cut(graph, code, seen, above, cut, v, k)
+    search_cut(graph, code, cut, v, k)
 }

@@ -12,19 +12,18 @@ use lib.Seq.{getD-set-other}
 use borrow.Author.Tests.{ne-eqb}
 use Rattle.maps.specs.Sheet.{Sheet, logic, node, size, isLogic}
 use Rattle.maps.specs.Lists.{keep, below}
-use Rattle.maps.specs.Cut.{logicNode, fittingCuts}
+use Rattle.maps.specs.Cut.{logicNode, FittingCut, fittingCuts}
 use Rattle.maps.specs.WellFormed.{WellFormed}
 use Rattle.maps.proofs.Over.{last-or}
 use Rattle.maps.proofs.Member.{everywhere, keep-append}
-use Rattle.maps.proofs.Enumerate.{complete, sound}
+use Rattle.maps.proofs.Enumerate.{clash, complete, sound}
 use Rattle.maps.proofs.Planned.{ordered}
-use Rattle.sheet.specs.Table.{kindIn, Tabled}
-use Rattle.sheet.proofs.Tables.{logic-code, code-logic, logic-one}
+use Rattle.sheet.specs.Table.{kindAt, Tabled}
+use Rattle.sheet.proofs.Tables.{kind-tabled}
 use Rattle.cut.specs.Question.{codeFor, Asked}
 use Rattle.cut.specs.Search.{Ends}
 use Rattle.cut.proofs.Listing.{filled-more}
 use Rattle.cut.proofs.Laws.{succeeded, failed}
-use Rattle.relax.specs.Settle.{Fitting}
 use Rattle.bound.specs.Lookup.{Beside}
 use Rattle.bound.specs.Going.{Keeps}
 use Rattle.level.specs.Cuts.{TriedCut, FitTest, Lowest}
@@ -53,33 +52,33 @@ keep-first p (suc n) r l h e = go (λ m. keep-first p n r m h e) (last-or r n l)
 -- ---- one node
 
 -- a node that is no logic node
-pub fit-other : (S : Sheet) (graph : List ℕ) (v k : ℕ) (kept : List ℕ) → v < 256 → (kindIn graph v ≡ 1 → ⊥) → FitTest S graph v k kept true
+pub fit-other : (S : Sheet) (graph : List ℕ) (v k : ℕ) (kept : List ℕ) → v < 256 → isLogic (kindAt graph v) ≡ false → FitTest S graph v k kept true
 fit-other S graph v k kept l h =
-    record { test = λ well tabled lt e logic. absurd (h (tabled .kinds v l ∙ logic-one (node S v .kind) logic)) }
+    record { test = λ well tabled lt e logic. clash (sym h ∙ ap isLogic (kind-tabled S graph tabled v l) ∙ logic) }
 
 -- the open codes below u are written
 pub record OpenTo (graph code : List ℕ) (v u : ℕ) : Type 0 where
   pub wide : length code ≡ 256
-  pub codes : (i : ℕ) → i < u → getD code i 0 ≡ codeFor (eqb (kindIn graph i) 1) true
+  pub codes : (i : ℕ) → i < u → getD code i 0 ≡ codeFor (isLogic (kindAt graph i)) true
   pub own : getD code v 0 ≡ 0
 
 pub open-none : (graph : List ℕ) (v : ℕ) → v < 256 → OpenTo graph (replicate 256 0) v 0
 open-none graph v l =
     record { wide = length-replicate {A = ℕ} 256 0; codes = λ i m. absurd (not-suc-le-zero m); own = getD-replicate {A = ℕ} 256 v 0 0 l }
 
-pub open-more : (graph code : List ℕ) (v u x : ℕ) → u < v → v < 256 → x ≡ codeFor (eqb (kindIn graph u) 1) true → OpenTo graph code v u
+pub open-more : (graph code : List ℕ) (v u x : ℕ) → u < v → v < 256 → x ≡ codeFor (isLogic (kindAt graph u)) true → OpenTo graph code v u
     → OpenTo graph (set code u x) v (u + 1)
 open-more graph code v u x l m e o =
     record {
       wide = length-set code u x ∙ o .wide;
-      codes = subst (λ (y : ℕ). (i : ℕ) → i < u + 1 → getD (set code u y) i 0 ≡ codeFor (eqb (kindIn graph i) 1) true) (sym e)
-          (filled-more (λ i. codeFor (eqb (kindIn graph i) 1) true) code u (let w = o .wide in omega arith) (o .codes));
+      codes = subst (λ (y : ℕ). (i : ℕ) → i < u + 1 → getD (set code u y) i 0 ≡ codeFor (isLogic (kindAt graph i)) true) (sym e)
+          (filled-more (λ i. codeFor (isLogic (kindAt graph i)) true) code u (let w = o .wide in omega arith) (o .codes));
       own = getD-set-other code u v x 0 (λ q. omega arith) ∙ o .own;
     }
 
 -- under open codes every fitting cut is allowed
-pub fit-tried : (S : Sheet) (graph code : List ℕ) (v k : ℕ) (kept : List ℕ) (r : Bool) → v < 256 → kindIn graph v ≡ 1
-    → ((u : ℕ) → u < v → getD code u 0 ≡ codeFor (eqb (kindIn graph u) 1) true) → getD code v 0 ≡ 0
+pub fit-tried : (S : Sheet) (graph code : List ℕ) (v k : ℕ) (kept : List ℕ) (r : Bool) → v < 256 → isLogic (kindAt graph v) ≡ true
+    → ((u : ℕ) → u < v → getD code u 0 ≡ codeFor (isLogic (kindAt graph u)) true) → getD code v 0 ≡ 0
     → ((S : Sheet) (may : ℕ → Bool) → Asked S may v graph code → TriedCut S may v k kept r) → FitTest S graph v k kept r
 fit-tried S graph code v k kept r l one below own tried =
     record { test = λ well tabled lt e. go well e (asked well tabled lt) r (tried S (λ u. true) (asked well tabled lt)) }
@@ -90,13 +89,13 @@ fit-tried S graph code v k kept r l one below own tried =
           well = well;
           tabled = tabled;
           node = lt;
-          logic = code-logic (node S v .kind) (sym (tabled .kinds v l) ∙ one);
-          below = λ u m. below u m ∙ ap (λ (b : Bool). codeFor b true) (ap (λ (x : ℕ). eqb x 1) (tabled .kinds u (omega arith)) ∙ logic-code (node S u .kind));
+          logic = sym (ap isLogic (kind-tabled S graph tabled v l)) ∙ one;
+          below = λ u m. below u m ∙ ap (λ (b : Bool). codeFor b true) (ap isLogic (kind-tabled S graph tabled u (omega arith)));
           own = own;
         }
 
     go : WellFormed S → k ≡ S .leaves → Asked S (λ u. true) v graph code → (r : Bool) → TriedCut S (λ u. true) v k kept r
-        → Ends r (logicNode S v ≡ true → Keeps S kept v) ((logicNode S v ≡ true) × ((c : List ℕ) → Fitting S v c → ⊥))
+        → Ends r (logicNode S v ≡ true → Keeps S kept v) ((logicNode S v ≡ true) × ((c : List ℕ) → FittingCut S v c → ⊥))
     go well e a true t = λ _.
         record {
           leaves = t .0;
@@ -125,7 +124,7 @@ has S kept v well h = go (logicNode S v) refl
         some (fittingCuts S v) (complete S (ordered S well) v (f .cone) (f .isCone) (omega arith))
     go false e = refl
 
-has-none : (S : Sheet) (v : ℕ) → logicNode S v ≡ true → ((c : List ℕ) → Fitting S v c → ⊥) → lacks S v ≡ true
+has-none : (S : Sheet) (v : ℕ) → logicNode S v ≡ true → ((c : List ℕ) → FittingCut S v c → ⊥) → lacks S v ≡ true
 has-none S v e h = rw e (go (fittingCuts S v) (λ c m. m))
   where
     go : (cs : List (List ℕ)) → ((c : List ℕ) → List·Memᴰ c cs → List·Memᴰ c (fittingCuts S v)) → eqb (length cs) 0 ≡ true

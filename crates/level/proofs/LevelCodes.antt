@@ -4,19 +4,19 @@ use mathlib.Core.Path.{_≡_, refl, sym, subst, ap, _∙_}
 use mathlib.Core.Bool.{Bool, true, false}
 use mathlib.Core.List.{List}
 use native.Mathlib.Omega.{arith}
-use lib.Dec.{eqb}
 use lib.ListN.{length, getD, set}
 use lib.Seq.{getD-set-other}
 use Rattle.maps.specs.Label.{Label, leq, plus, ready, _≼_}
-use Rattle.maps.specs.Sheet.{Sheet, logic, node, size, latency}
+use Rattle.maps.specs.Sheet.{Sheet, Kind, isLogic, logic, node, size, latency}
 use Rattle.maps.specs.Cut.{cut}
 use Rattle.maps.proofs.Order.{leq-true, ≼-leq}
 use Rattle.maps.proofs.Member.{All-at, All-of, All-get}
-use Rattle.sheet.specs.Table.{kindIn, delayIn, latencyIn}
-use Rattle.sheet.proofs.Tables.{logic-code}
+use Rattle.sheet.specs.Table.{kindAt, delayIn, latencyIn}
+use Rattle.sheet.specs.declared.reader.Header as R
+use Rattle.sheet.proofs.Tables.{kind-tabled}
 use Rattle.cut.specs.Question.{codeFor, Asked}
 use Rattle.cut.proofs.Listing.{filled-more}
-use Rattle.relax.specs.Settle.{arrives}
+use Rattle.maps.specs.Legal.{arrives}
 use Rattle.relax.proofs.Forced.{leaf-read}
 use Rattle.bound.specs.Lookup.{labelIn, arrivalIn}
 use Rattle.level.specs.Carry.{CodesBy, Placed}
@@ -29,12 +29,21 @@ module _ (graph steps levels : List ℕ) (v top : ℕ) (a : Label) where
   inTime u = leq (arrivalIn graph steps levels top (delayIn graph v) u) a
 
   abbrev pub codeBy : ℕ → ℕ
-  codeBy u = codeFor (eqb (kindIn graph u) 1) (inTime u)
+  codeBy u = codeFor (isLogic (kindAt graph u)) (inTime u)
 
   -- the codes of the nodes below u stand, and that of v is 0
   pub record Coded (code : List ℕ) (u : ℕ) : Type 0 where
     pub done : (i : ℕ) → i < u → getD code i 0 ≡ codeBy i
     pub own : getD code v 0 ≡ 0
+
+-- the code of a node, from what is known of its kind and of the label at which it arrives
+pub code-from : {r : ℕ} (kind own : Kind) (b : Bool) (x a by : Label) → kind ≡ own → b ≡ leq x by → x ≡ a → r ≡ codeFor (isLogic kind) b → r ≡ codeFor (isLogic own) (leq a by)
+code-from kind own b x a by k t h e =
+    e ∙ ap (λ (w : Kind). codeFor (isLogic w) b) k ∙ ap (codeFor (isLogic own)) (t ∙ ap (λ (w : Label). leq w by) h)
+
+pub code-is : (graph steps levels : List ℕ) (v top u delay r : ℕ) (a : Label) → delay ≡ delayIn graph v
+    → r ≡ codeFor (isLogic (kindAt graph u)) (leq (arrivalIn graph steps levels top delay u) a) → r ≡ codeBy graph steps levels v top a u
+code-is graph steps levels v top u delay r a d e = e ∙ ap (λ (n : ℕ). codeFor (isLogic (kindAt graph u)) (leq (arrivalIn graph steps levels top n u) a)) d
 
 module _ {graph steps levels : List ℕ} {v top : ℕ} {a : Label} {code : List ℕ} where
   pub coded-none : getD code v 0 ≡ 0 → Coded graph steps levels v top a code 0
@@ -52,22 +61,22 @@ module _ {graph steps levels : List ℕ} {v top : ℕ} {a : Label} {code : List 
   pub coded-all : {u : ℕ} → v ≤ u → Coded graph steps levels v top a code u → CodesBy graph steps levels code v top a
   coded-all l h = record { below = λ i m. h .done i (omega arith); own = h .own }
 
-module _ {S : Sheet} {graph : List ℕ} {v k top : ℕ} (placed : Placed S graph v k top) where
+module _ {S : Sheet} {graph : List ℕ} {v : ℕ} {limits : R.Header} (placed : Placed S graph v limits) where
   pub placed-in : v < 256
   placed-in = omega (arith, placed .node, placed .well .size .most)
 
   module _ (steps levels : List ℕ) where
     -- the arrivals of the tables are the sheet's
-    pub arrives-in : (u : ℕ) → u < 256 → arrivalIn graph steps levels top (delayIn graph v) u ≡ arrives S (labelIn steps levels) v u
+    pub arrives-in : (u : ℕ) → u < 256 → arrivalIn graph steps levels (limits .top) (delayIn graph v) u ≡ arrives S (labelIn steps levels) v u
     unfolding arrivalIn
     arrives-in u l =
         let a = labelIn steps levels u in
-        ap (λ (d : ℕ). plus top (ready (latencyIn graph u) a) d) (placed .tabled .delays v placed-in)
-        ∙ ap (λ (lat : ℕ). plus top (ready lat a) (node S v .delay)) (placed .tabled .latencies u l)
+        ap (λ (d : ℕ). plus (limits .top) (ready (latencyIn graph u) a) d) (placed .tabled .delays v placed-in)
+        ∙ ap (λ (lat : ℕ). plus (limits .top) (ready lat a) (node S v .delay)) (placed .tabled .latencies u l)
         ∙ ap (λ (t : ℕ). plus t (ready (latency S u) a) (node S v .delay)) (placed .tops)
 
     module _ (a : Label) where
-      pub asked-by : {code : List ℕ} → CodesBy graph steps levels code v top a → Asked S (inTime graph steps levels v top a) v graph code
+      pub asked-by : {code : List ℕ} → CodesBy graph steps levels code v (limits .top) a → Asked S (inTime graph steps levels v (limits .top) a) v graph code
       asked-by h =
           record {
             well = placed .well;
@@ -76,12 +85,12 @@ module _ {S : Sheet} {graph : List ℕ} {v k top : ℕ} (placed : Placed S graph
             logic = placed .logic;
             below = λ u l.
                 h .below u l
-                ∙ ap (λ (b : Bool). codeFor b (inTime graph steps levels v top a u))
-                (ap (λ (c : ℕ). eqb c 1) (placed .tabled .kinds u (omega (arith, placed-in))) ∙ logic-code (node S u .kind));
+                ∙ ap (λ (b : Bool). codeFor b (inTime graph steps levels v (limits .top) a u))
+                (ap isLogic (kind-tabled S graph (placed .tabled) u (omega (arith, placed-in))));
             own = h .own;
           }
 
-      pub tried-by : (kept : List ℕ) (r : Bool) → TriedCut S (inTime graph steps levels v top a) v k kept r → TriedLevel S graph steps levels kept v top a r
+      pub tried-by : (kept : List ℕ) (r : Bool) → TriedCut S (inTime graph steps levels v (limits .top) a) v (limits .leaves) kept r → TriedLevel S graph steps levels kept v (limits .top) a r
       tried-by kept true h =
           let row = h .3 in (
             record {
@@ -91,8 +100,8 @@ module _ {S : Sheet} {graph : List ℕ} {v k top : ℕ} (placed : Placed S graph
             },
             λ j l.
                 let m : j < length (h .0) = omega (arith, row .count) in
-                subst (λ (u : ℕ). arrivalIn graph steps levels top (delayIn graph v) u ≼ a) (sym (row .leaves j m))
-                (leq-true (All-get (λ u. inTime graph steps levels v top a u ≡ true) 0 (h .0) (h .1 .allowed) j m)),
+                subst (λ (u : ℕ). arrivalIn graph steps levels (limits .top) (delayIn graph v) u ≼ a) (sym (row .leaves j m))
+                (leq-true (All-get (λ u. inTime graph steps levels v (limits .top) a u ≡ true) 0 (h .0) (h .1 .allowed) j m)),
           )
       tried-by kept false h = λ by.
           h (cut S (by .cone))
@@ -102,6 +111,6 @@ module _ {S : Sheet} {graph : List ℕ} {v k top : ℕ} (placed : Placed S graph
             isCut = refl;
             allowed = All-of _ (cut S (by .cone)) (λ u m.
                 let l : u < 256 = omega (arith, leaf-read S (by .cone) u m .0, placed .well .size .most) in
-                ≼-leq (subst (λ (b : Label). b ≼ a) (sym (arrives-in u l)) (All-at (λ u. arrives S (labelIn steps levels) v u ≼ a) _ (by .arrive) m)));
+                ≼-leq (subst (λ (b : Label). b ≼ a) (sym (arrives-in u l)) (All-at (λ u. arrives S (labelIn steps levels) v u ≼ a) _ (by .carries) m)));
           })
           (omega (arith, by .fits, placed .leaves))

@@ -3,26 +3,26 @@ use Prim.Native.Nat.{ℕ, _≤_, _<_}
 use mathlib.Core.Path.{_≡_}
 use mathlib.Core.Bool.{true}
 use mathlib.Core.List.{List}
-use lib.Dec.{eqb}
 use lib.ListN.{getD}
 use Rattle.maps.specs.Label.{Label, label, leq, _≼_}
-use Rattle.maps.specs.Sheet.{Sheet, size}
+use Rattle.maps.specs.Sheet.{Sheet, size, isLogic}
 use Rattle.maps.specs.Cut.{logicNode}
 use Rattle.maps.specs.WellFormed.{WellFormed}
-use Rattle.sheet.specs.Table.{kindIn, delayIn, Tabled}
+use Rattle.sheet.specs.Table.{kindAt, delayIn, Tabled}
+use Rattle.sheet.specs.declared.reader.Header as R
 use Rattle.cut.specs.Question.{codeFor}
 use Rattle.relax.specs.Guard.{Forced}
 use Rattle.bound.specs.Lookup.{labelIn, arrivalIn, Soon, countOf, leafOf}
 use Rattle.bound.specs.Going.{Keeps}
 
--- the table of nodes holds the logic node v; k and top are K and T
-pub record Placed (S : Sheet) (graph : List ℕ) (v k top : ℕ) : Type 0 where
+-- the table of nodes holds the logic node v; the limits are K and T
+pub record Placed (S : Sheet) (graph : List ℕ) (v : ℕ) (limits : R.Header) : Type 0 where
   pub well : WellFormed S
   pub tabled : Tabled S graph
   pub node : v < size S
   pub logic : logicNode S v ≡ true
-  pub leaves : k ≡ S .leaves
-  pub tops : top ≡ S .top
+  pub leaves : limits .leaves ≡ S .leaves
+  pub tops : limits .top ≡ S .top
 
 -- the kept leaves of v are ids whose ready steps are the code's
 pub record Leaves (graph steps kept : List ℕ) (v : ℕ) : Type 0 where
@@ -33,7 +33,7 @@ pub record Leaves (graph steps kept : List ℕ) (v : ℕ) : Type 0 where
 
 -- the codes of the question which cuts of v carry the label a
 pub record CodesBy (graph steps levels code : List ℕ) (v top : ℕ) (a : Label) : Type 0 where
-  pub below : (u : ℕ) → u < v → getD code u 0 ≡ codeFor (eqb (kindIn graph u) 1) (leq (arrivalIn graph steps levels top (delayIn graph v) u) a)
+  pub below : (u : ℕ) → u < v → getD code u 0 ≡ codeFor (isLogic (kindAt graph u)) (leq (arrivalIn graph steps levels top (delayIn graph v) u) a)
   pub own : getD code v 0 ≡ 0
 
 -- the leaves of v's kept cut arrive by a

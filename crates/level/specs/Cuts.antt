@@ -5,13 +5,12 @@ use mathlib.Core.Bool.{Bool, true}
 use mathlib.Core.List.{List, [], _∷_}
 use lib.ListN.{length, getD}
 use Rattle.maps.specs.Sheet.{Sheet, size}
-use Rattle.maps.specs.Cut.{logicNode}
+use Rattle.maps.specs.Cut.{logicNode, FittingCut}
 use Rattle.maps.specs.WellFormed.{WellFormed}
 use Rattle.maps.specs.Outcome.{cutless}
 use Rattle.sheet.specs.Table.{Tabled}
 use Rattle.cut.specs.Question.{AllowedCut}
 use Rattle.cut.specs.Search.{Ends}
-use Rattle.relax.specs.Settle.{Fitting}
 use Rattle.bound.specs.Lookup.{countOf, leafOf, Row, Beside}
 use Rattle.bound.specs.Going.{Keeps, AllKept}
 
@@ -29,7 +28,7 @@ TriedCut S may v k kept r =
 -- node v is no logic node or has a fitting cut, which is kept; or it is a logic node that has none
 pub record FitTest (S : Sheet) (graph : List ℕ) (v k : ℕ) (kept : List ℕ) (r : Bool) : Type 0 where
   pub test : WellFormed S → Tabled S graph → v < size S → k ≡ S .leaves
-      → Ends r (logicNode S v ≡ true → Keeps S kept v) ((logicNode S v ≡ true) × ((c : List ℕ) → Fitting S v c → ⊥))
+      → Ends r (logicNode S v ≡ true → Keeps S kept v) ((logicNode S v ≡ true) × ((c : List ℕ) → FittingCut S v c → ⊥))
 
 -- r is the lowest logic node without a fitting cut; or it is n, and each logic node has one, which is kept
 pub record Lowest (S : Sheet) (graph : List ℕ) (n k : ℕ) (kept : List ℕ) (r : ℕ) : Type 0 where

@@ -2,8 +2,10 @@
 mod cuts;
 mod level;
 
+pub use cuts::Cuts;
 pub use cuts::keep_cut;
+pub use cuts::leaf_count_in;
+pub use cuts::leaf_in;
 pub use cuts::lowest_cutless;
 pub use level::codes;
 pub use level::table_label;
-pub use level::wider;

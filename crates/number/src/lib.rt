@@ -2,16 +2,18 @@
 ghost use mathlib.Core.Path.{_≡_};
 ghost use lib.ListN.{length};
 ghost use Rattle.maps.specs.Number.{number, refusal};
-ghost use Rattle.maps.specs.Read.{ranged, operand};
+ghost use Rattle.maps.specs.Read.{inRange, operand};
 ghost use Rattle.number.specs.Code.{numberMeant};
+ghost use Rattle.number.specs.Ranges.{spanMeant, fieldRange};
 use maps::Refusal;
 
 mod ranges;
 mod reader;
 
+pub use ranges::Field;
 pub use ranges::Ranges;
 pub use ranges::Span;
-pub use ranges::header_range;
+pub use ranges::range_of;
 pub use ranges::ranges_of;
 pub use reader::Reader;
 pub use reader::next_number;
@@ -70,10 +72,12 @@ pub fn number_at(sheet: &[u8], c: Cursor) -> Number
     }
 }
 
-// The number at a cursor, from low to high.
-pub fn field(sheet: &[u8], c: Cursor, low: u32, high: u32) -> Number
-    ensures { λ r. ⌜ numberMeant r ≡ ranged low high (now (sheet .entry)) (c .at) ⌝ }
+// The number at a cursor, in a range.
+pub fn field_in(sheet: &[u8], c: Cursor, span: Span) -> Number
+    ensures { λ r. ⌜ numberMeant r ≡ inRange (spanMeant span) (now (sheet .entry)) (c .at) ⌝ }
 {
+    let low = span.low;
+    let high = span.high;
     let read = read_number(sheet, c);
     let Number::Value { value, next: _ } = read else {
         return read;
@@ -85,6 +89,14 @@ pub fn field(sheet: &[u8], c: Cursor, low: u32, high: u32) -> Number
         return Number::Refused(Refusal::Range(c.at));
     }
     read
+}
+
+// The number at a cursor, in the range of its field.
+pub fn field_at(sheet: &[u8], c: Cursor, field: Field) -> Number
+    ensures { λ r. ⌜ numberMeant r ≡ inRange (fieldRange field) (now (sheet .entry)) (c .at) ⌝ }
+{
+    let span = range_of(field);
+    field_in(sheet, c, span)
 }
 
 // The operand at a cursor, of the node own.

@@ -16,7 +16,7 @@ use Rattle.maps.specs.Legal.{readyOf, Carried, CarryingCut, Legal, latencyOfAll
 use Rattle.maps.specs.Least.{at, least, leastLabels}
 use Rattle.maps.specs.Plan.{plan}
 use Rattle.maps.specs.Read.{Header, sheet, refused, parse}
-use Rattle.maps.specs.Outcome.{Outcome, refusal, within, timed, cutless, covered, parsed, outcome, outcomeNumber, outcomePlace, bufferAfter}
+use Rattle.maps.specs.Outcome.{refusal, within, timed, cutless, covered, parsed, outcome}
 use Rattle.maps.proofs.Member.{All-of, below-out}
 use Rattle.maps.proofs.Over.{getD-over}
 use Rattle.maps.proofs.Enumerate.{clash}
@@ -28,9 +28,11 @@ use Rattle.bound.specs.Lookup.{labelIn, labelsIn, Soon}
 use Rattle.bound.specs.Going.{Given, AllKept}
 use Rattle.level.specs.Cuts.{Lowest}
 use Rattle.schedule.proofs.Exact.{labels-exact}
-use Rattle.planner.specs.Cover.{Labelled, Covered, Rows}
-use Rattle.planner.specs.Bytes.{Small, flatPlan}
-use Rattle.planner.proofs.PlanBytes.{plan-bytes}
+use Rattle.maps.specs.Limits.{leavesRange, horizonRange}
+use Rattle.cover.specs.Cover.{Covered}
+use Rattle.planner.specs.Call.{Answered}
+use Rattle.writing.specs.Bytes.{Small, flatPlan}
+use Rattle.writing.proofs.PlanBytes.{plan-bytes}
 
 -- a bound on every ready step bounds the latency
 latency-most : (S : Sheet) (L : ℕ → Label) (b : ℕ) → ((v : ℕ) → v < size S → readyOf S L v .step ≤ b) → latencyOfAll S L ≤ b
@@ -50,7 +52,7 @@ legal-carries S L H ok v l i = go (node S v .kind) i (ok .nodes v l .carried)
     go (box lat) e h = clash e
 
 -- labels that are legal within the horizon
-module _ {S : Sheet} {graph : List ℕ} {limits : R.Header} (steps levels : List ℕ) (k : Labelled S graph limits)
+module _ {S : Sheet} {graph differences : List ℕ} {limits : R.Header} (steps levels : List ℕ) (k : Given S graph differences limits)
     (ok : Legal S (at (labelsIn (size S) steps levels)) (S .horizon)) where
   label-is : (v : ℕ) → v < size S → at (labelsIn (size S) steps levels) v ≡ labelIn steps levels v
   label-is v l = getD-over (labelIn steps levels) earliest (size S) v l
@@ -61,7 +63,7 @@ module _ {S : Sheet} {graph : List ℕ} {limits : R.Header} (steps levels : List
   pub few-nodes : limits .nodes ≤ 256
   few-nodes = omega (arith, k .nodes, k .well .size .most)
 
-  pub few-leaves : limits .leaves ≤ 6
+  pub few-leaves : limits .leaves ≤ leavesRange .high
   few-leaves = omega (arith, k .leaves, k .well .leaves .most)
 
   pub soon : (u : ℕ) → u < limits .nodes → Soon graph steps u
@@ -74,7 +76,7 @@ module _ {S : Sheet} {graph : List ℕ} {limits : R.Header} (steps levels : List
     e : last ≡ latencyOfAll S (at (labelsIn (size S) steps levels))
     e = q ∙ ap (λ (n : ℕ). latencyOfAll S (at (labelsIn n steps levels))) (k .nodes)
 
-    last-most : last ≤ 4095
+    last-most : last ≤ horizonRange .high
     last-most =
         omega (
           arith,
@@ -96,15 +98,12 @@ module _ {S : Sheet} {graph : List ℕ} {limits : R.Header} (steps levels : List
         }
 
     -- the bytes written are those of the plan
-    pub planned : (marks cuts p : List ℕ) → Rows (limits .nodes) marks cuts → Covered S (labelsIn (size S) steps levels) marks cuts
+    pub planned : (marks cuts p : List ℕ) → Covered S (labelsIn (size S) steps levels) marks cuts
         → p ≡ flatPlan last (limits .nodes) steps levels marks cuts → p ≡ plan S (labelsIn (size S) steps levels)
-    planned marks cuts p rows c f =
-        f ∙ ap (λ (n : ℕ). flatPlan last n steps levels marks cuts) (k .nodes) ∙ plan-bytes S steps levels marks cuts (k .well .size .most) (rw (k .nodes) at rows) c last e
+    planned marks cuts p c f =
+        f ∙ ap (λ (n : ℕ). flatPlan last n steps levels marks cuts) (k .nodes) ∙ plan-bytes S steps levels marks cuts c last e
 
 -- the tables and limits that a sheet was read into
-pub labelled : {S : Sheet} {graph differences : List ℕ} {limits : R.Header} → Given S graph differences limits → Labelled S graph limits
-labelled g = record { well = g .well; tabled = g .tabled; leaves = g .leaves; top = g .top; nodes = g .nodes }
-
 pub given : {bytes graph differences : List ℕ} {limits : R.Header} (h : Held bytes graph differences (headerMeant limits)) → Given (h .held) graph differences limits
 given h =
     record {
@@ -154,10 +153,6 @@ copied-more bytes before buffer i l m e =
     ∙ sym (append-snoc (take i bytes) (getD bytes i 0) (drop (suc i) before))
     ∙ ap (λ (r : List ℕ). r ++ drop (suc i) before) (sym (take-suc bytes i 0 l))
     ∙ ap (λ (k : ℕ). take k bytes ++ drop k before) (sym (add-one i))
-
--- what the parts of an answer say of an outcome
-abbrev Answered : Outcome → (number place : ℕ) (before after : List ℕ) → Type 0
-Answered o number place before after = (number ≡ outcomeNumber o) × (place ≡ outcomePlace o) × (after ≡ bufferAfter o before)
 
 -- a plan that the buffer has no room for, and one that it has
 module _ (bytes buffer : List ℕ) (n : ℕ) (wide : n ≤ length bytes) where

@@ -1,7 +1,1 @@
-pub mod CoverMarks
-pub mod CoverCut
-pub mod CoverTurn
-pub mod Putting
-pub mod PlanBytes
 pub mod Drafts
-pub mod Demands

@@ -3,7 +3,7 @@ use Prim.Native.Nat.{ℕ, _≤_}
 use mathlib.Core.Path.{_≡_}
 use mathlib.Core.List.{List}
 use lib.ListN.{take}
-use Rattle.maps.specs.Outcome.{Outcome, refusal, within, outcome}
+use Rattle.maps.specs.Outcome.{Outcome, refusal, within, outcome, outcomeNumber, outcomePlace, bufferAfter}
 use Rattle.maps.specs.Code.{numberOf, placeOf}
 use Rattle.planner.specs.declared.call.Draft.{Draft}
 use Rattle.planner.specs.declared.call.Draft.the-variants as D
@@ -22,6 +22,10 @@ Made sheet bytes r = (room : ℕ) → outcome sheet room ≡ madeMeant bytes r r
 abbrev pub Short : Draft → Type 0
 Short (D.Plan n) = n ≤ 8192
 Short (D.Refused w) = Unit {0}
+
+-- number, place and buffer are those of an outcome
+abbrev pub Answered : Outcome → (number place : ℕ) (before after : List ℕ) → Type 0
+Answered o number place before after = (number ≡ outcomeNumber o) × (place ≡ outcomePlace o) × (after ≡ bufferAfter o before)
 
 -- "An accepted sheet gives number 0 and, as place, the length of what was written"
 abbrev pub plannedNumber : Planned → ℕ

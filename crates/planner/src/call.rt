@@ -1,27 +1,31 @@
 // The planning call.
 ghost use mathlib.Core.Path.{_≡_};
-ghost use mathlib.Core.List.{[], _++_};
+ghost use mathlib.Core.List.{List, [], _++_};
 ghost use Prim.Native.Nat.{ℕ, _≤_};
 ghost use lib.ListN.{length, take, drop};
 ghost use Rattle.maps.specs.Sheet.{Sheet, size};
 ghost use Rattle.maps.specs.Legal.{Legal};
 ghost use Rattle.maps.specs.Least.{at, leastLabels};
 ghost use Rattle.maps.specs.Plan.{plan};
-ghost use Rattle.maps.specs.Outcome.{timed, cutless, covered, within, outcome, outcomeNumber, outcomePlace, bufferAfter};
+ghost use Rattle.maps.specs.Outcome.{timed, cutless, covered, within, outcome};
 ghost use Rattle.sheet.specs.Table.{Falling};
 ghost use Rattle.bound.specs.Lookup.{labelsIn};
 ghost use Rattle.bound.specs.Going.{Given, AllKept};
-ghost use Rattle.planner.specs.Cover.{Labelled};
-ghost use Rattle.planner.specs.Call.{Made, Short, madeMeant, plannedNumber, plannedPlace};
-use crate::bytes::write_plan;
-use crate::covering::cover;
+ghost use Rattle.planner.specs.Call.{Made, Short, madeMeant, Answered, plannedNumber, plannedPlace};
+use bound::Levels;
+use bound::Steps;
+use cover::cover;
+use level::Cuts;
 use level::lowest_cutless;
 use maps::Refusal;
 use schedule::latency;
 use schedule::least_labels;
+use sheet::Differences;
+use sheet::Graph;
 use sheet::Header;
 use sheet::Reading;
 use sheet::read_sheet;
+use writing::write_plan;
 
 // A plan of so many bytes, or why there is none.
 pub enum Draft {
@@ -37,15 +41,15 @@ pub enum Planned {
 
 // Writes the plan of legal labels; its length.
 pub fn plan_labels(
-    graph: &[u32; 3072],
+    graph: &Graph,
     limits: Header,
-    steps: &[u32; 256],
-    levels: &[u32; 256],
+    steps: &Steps,
+    levels: &Levels,
     bytes: &mut [u8; 8192],
 ) -> usize
     requires { ⌜ Falling (now graph) ⌝ }
-    requires { ⌜ ((S : Sheet) × Labelled S (now graph) limits × Legal S (at (labelsIn (size S) (now steps) (now levels))) (S .horizon)) ⌝ }
-    ensures { λ r. ⌜ ((S : Sheet) → Labelled S (now (graph .entry)) limits → Legal S (at (labelsIn (size S) (now (steps .entry)) (now (levels .entry)))) (S .horizon)
+    requires { ⌜ ((S : Sheet) × (differences : List ℕ) × Given S (now graph) differences limits × Legal S (at (labelsIn (size S) (now steps) (now levels))) (S .horizon)) ⌝ }
+    ensures { λ r. ⌜ ((S : Sheet) (differences : List ℕ) → Given S (now (graph .entry)) differences limits → Legal S (at (labelsIn (size S) (now (steps .entry)) (now (levels .entry)))) (S .horizon)
         → take r (now (bytes .exit)) ≡ plan S (labelsIn (size S) (now (steps .entry)) (now (levels .entry)))) ⌝ }
     ensures { λ r. ⌜ r ≤ 8192 ⌝ }
 {
@@ -58,14 +62,10 @@ pub fn plan_labels(
 
 // Plans the sheet in the tables, where `kept` has a fitting cut of each logic node.
 pub fn plan_kept(
-    graph: &[u32; 3072],
-    differences: &[u32; 4096],
+    graph: &Graph,
+    differences: &Differences,
     limits: Header,
-    kept: &mut [u32; 2048],
-    code: &mut [u8; 256],
-    seen: &mut [u8; 512],
-    above: &mut [u32; 256],
-    cut: &mut [u32; 8],
+    kept: &mut Cuts,
     bytes: &mut [u8; 8192],
 ) -> Draft
     requires { ⌜ Falling (now graph) ⌝ }
@@ -76,18 +76,7 @@ pub fn plan_kept(
 {
     let mut steps = [0u32; 256];
     let mut levels = [0u32; 256];
-    if !least_labels(
-        graph,
-        differences,
-        limits,
-        kept,
-        &mut steps,
-        &mut levels,
-        code,
-        seen,
-        above,
-        cut,
-    ) {
+    if !least_labels(graph, differences, limits, kept, &mut steps, &mut levels) {
         return Draft::Refused(Refusal::Late(0));
     }
     let length = plan_labels(graph, limits, &steps, &levels, bytes);
@@ -96,8 +85,8 @@ pub fn plan_kept(
 
 // Plans the sheet in the tables.
 pub fn plan_tables(
-    graph: &[u32; 3072],
-    differences: &[u32; 4096],
+    graph: &Graph,
+    differences: &Differences,
     limits: Header,
     bytes: &mut [u8; 8192],
 ) -> Draft
@@ -108,34 +97,11 @@ pub fn plan_tables(
     ensures { λ r. ⌜ Short r ⌝ }
 {
     let mut kept = [0u32; 2048];
-    let mut code = [0u8; 256];
-    let mut seen = [0u8; 512];
-    let mut above = [0u32; 256];
-    let mut cut = [0u32; 8];
-    let lowest = lowest_cutless(
-        graph,
-        &mut kept,
-        &mut code,
-        &mut seen,
-        &mut above,
-        &mut cut,
-        limits.nodes,
-        limits.leaves,
-    );
+    let lowest = lowest_cutless(graph, &mut kept, limits.nodes, limits.leaves);
     if lowest < limits.nodes {
         return Draft::Refused(Refusal::Cutless(lowest as usize));
     }
-    plan_kept(
-        graph,
-        differences,
-        limits,
-        &mut kept,
-        &mut code,
-        &mut seen,
-        &mut above,
-        &mut cut,
-        bytes,
-    )
+    plan_kept(graph, differences, limits, &mut kept, bytes)
 }
 
 // Makes the plan of a sheet, whatever the room.
@@ -143,7 +109,7 @@ pub fn make_plan(sheet: &[u8], bytes: &mut [u8; 8192]) -> Draft
     ensures { λ r. ⌜ Made (now (sheet .entry)) (now (bytes .exit)) r ⌝ }
     ensures { λ r. ⌜ Short r ⌝ }
 {
-    let mut graph = [0u32; 3072];
+    let mut graph = [0u32; 4096];
     let mut differences = [0u32; 4096];
     let reading = read_sheet(sheet, &mut graph, &mut differences);
     match reading {
@@ -167,9 +133,7 @@ pub fn copy(bytes: &[u8], buffer: &mut [u8], n: usize)
 // Hands over a plan of n bytes where the buffer has room.
 pub fn hand_over(bytes: &[u8], buffer: &mut [u8], n: usize) -> Planned
     requires { ⌜ n ≤ length (now bytes) ⌝ }
-    ensures { λ r. ⌜ (plannedNumber r ≡ outcomeNumber (within (length (now (buffer .entry))) (take n (now (bytes .entry)))))
-        × (plannedPlace r ≡ outcomePlace (within (length (now (buffer .entry))) (take n (now (bytes .entry)))))
-        × (now (buffer .exit) ≡ bufferAfter (within (length (now (buffer .entry))) (take n (now (bytes .entry)))) (now (buffer .entry))) ⌝ }
+    ensures { λ r. ⌜ Answered (within (length (now (buffer .entry))) (take n (now (bytes .entry)))) (plannedNumber r) (plannedPlace r) (now (buffer .entry)) (now (buffer .exit)) ⌝ }
 {
     if buffer.len() < n {
         return Planned::Refused(Refusal::Room(n));
@@ -180,9 +144,7 @@ pub fn hand_over(bytes: &[u8], buffer: &mut [u8], n: usize) -> Planned
 
 // Plans a sheet into a buffer: number, place and every byte of the buffer are those of the defined outcome.
 pub fn plan(sheet: &[u8], buffer: &mut [u8]) -> Planned
-    ensures { λ r. ⌜ (plannedNumber r ≡ outcomeNumber (outcome (now (sheet .entry)) (length (now (buffer .entry)))))
-        × (plannedPlace r ≡ outcomePlace (outcome (now (sheet .entry)) (length (now (buffer .entry)))))
-        × (now (buffer .exit) ≡ bufferAfter (outcome (now (sheet .entry)) (length (now (buffer .entry)))) (now (buffer .entry))) ⌝ }
+    ensures { λ r. ⌜ Answered (outcome (now (sheet .entry)) (length (now (buffer .entry)))) (plannedNumber r) (plannedPlace r) (now (buffer .entry)) (now (buffer .exit)) ⌝ }
 {
     let mut bytes = [0u8; 8192];
     let draft = make_plan(sheet, &mut bytes);
@@ -204,9 +166,7 @@ pub struct Answer {
 
 #[no_mangle]
 pub extern "C" fn maps_plan(sheet: &[u8], buffer: &mut [u8]) -> Answer
-    ensures { λ r. ⌜ (r .number ≡ outcomeNumber (outcome (now (sheet .entry)) (length (now (buffer .entry)))))
-        × (r .place ≡ outcomePlace (outcome (now (sheet .entry)) (length (now (buffer .entry)))))
-        × (now (buffer .exit) ≡ bufferAfter (outcome (now (sheet .entry)) (length (now (buffer .entry)))) (now (buffer .entry))) ⌝ }
+    ensures { λ r. ⌜ Answered (outcome (now (sheet .entry)) (length (now (buffer .entry)))) (r .number) (r .place) (now (buffer .entry)) (now (buffer .exit)) ⌝ }
 {
     let answer = plan(sheet, buffer);
     match answer {

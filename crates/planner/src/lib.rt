@@ -1,8 +1,7 @@
-// The planner: the cover of a labelled sheet, the bytes of its plan, and the planning call.
-mod bytes;
+// The planner: the planning call and its C export.
 mod call;
-mod covering;
 
+pub use call::Answer;
 pub use call::Planned;
 pub use call::maps_plan;
 pub use call::plan;

@@ -2,7 +2,7 @@
 mod cuts;
 mod reading;
 
-pub use cuts::maps_any_cut;
 pub use cuts::maps_cut;
+pub use cuts::maps_has_cut;
 pub use reading::ReadAnswer;
 pub use reading::maps_read;

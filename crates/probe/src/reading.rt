@@ -2,6 +2,8 @@
 ghost use mathlib.Core.Path.{_≡_};
 ghost use Rattle.maps.specs.Read.{parse};
 ghost use Rattle.sheet.specs.Table.{readAfter, answerNumber, answerPlace};
+use sheet::Differences;
+use sheet::Graph;
 use sheet::Reading;
 use sheet::read_sheet;
 
@@ -15,15 +17,15 @@ pub struct ReadAnswer {
 #[no_mangle]
 pub extern "C" fn maps_read(
     sheet: &[u8],
-    graph: &mut [u32; 3072],
-    differences: &mut [u32; 4096],
+    graph: &mut Graph,
+    differences: &mut Differences,
 ) -> ReadAnswer
     ensures { λ r. ⌜ (r .number ≡ answerNumber (readAfter (parse (now (sheet .entry))) (now (graph .entry)) (now (differences .entry)) .answer))
         × (r .place ≡ answerPlace (readAfter (parse (now (sheet .entry))) (now (graph .entry)) (now (differences .entry)) .answer))
         × (now (graph .exit) ≡ readAfter (parse (now (sheet .entry))) (now (graph .entry)) (now (differences .entry)) .graph)
         × (now (differences .exit) ≡ readAfter (parse (now (sheet .entry))) (now (graph .entry)) (now (differences .entry)) .differences) ⌝ }
 {
-    let mut own_graph = [0u32; 3072];
+    let mut own_graph = [0u32; 4096];
     let mut own_differences = [0u32; 4096];
     let reading = read_sheet(sheet, &mut own_graph, &mut own_differences);
     let Reading::Refused(why) = reading else {

@@ -3,38 +3,73 @@ use Prim.Native.Nat.{ℕ, zero, suc, _+_, _-_, _*_, _≤_, _<_, max}
 use mathlib.Core.Path.{_≡_, refl, sym, subst, ap, _∙_}
 use mathlib.Core.Bool.{Bool, true, false}
 use mathlib.Core.List.{List, [], _∷_, _++_, foldr, List·Memᴰ}
+use native.Mathlib.Nat.{mul-le-mul-right, not-suc-le-zero}
 use native.Mathlib.Numerals.{add-one}
 use native.Mathlib.Omega.{arith}
+use native.Mathlib.Decide.{ℕ-discrete}
 use lib.Dec.{leb}
-use lib.ListN.{length, getD}
+use lib.ListN.{length, getD, set, replicate, length-set, length-replicate}
+use lib.Seq.{getD-set-same, getD-set-other}
+use borrow.Author.Count.{below-more}
 use borrow.Author.Tests.{leb-true, leb-false}
+use Rattle.maps.specs.Limits.{weightMost}
 use Rattle.maps.specs.Label.{Label, label, _≼_}
 use Rattle.maps.specs.Lists.{All, below}
 use Rattle.maps.specs.Sheet.{Sheet, Difference, node, size, latency}
+use Rattle.maps.specs.Cut.{reads}
 use Rattle.maps.specs.Legal.{readyOf, Least, latencyOfAll, NoneLegal}
 use Rattle.maps.specs.Least.{at, leastLabels, late, least}
 use Rattle.maps.specs.Outcome.{cutless}
 use Rattle.maps.proofs.Over.{total, length-over, getD-over}
-use Rattle.maps.proofs.Member.{All-at, All-of, All-ids, All-get, mem-out, below-out}
+use Rattle.maps.proofs.Member.{zeros-at, All-at, All-of, All-ids, All-get, mem-in, mem-out, index-mem, below-out}
 use Rattle.maps.proofs.Fix.{key, label-path, is-least, is-late}
 use Rattle.maps.proofs.Planned.{delays, operands-below, least-right}
-use Rattle.sheet.specs.Table.{latencyIn, operandIn, noDifference, differenceAt, Tabled}
+use Rattle.sheet.specs.Table.{delayIn, latencyIn, operandIn, fromIn, noDifference, differenceAt, Tabled}
 use Rattle.sheet.specs.declared.reader.Header as R
 use Rattle.cut.specs.Search.{Ends}
+use Rattle.cut.proofs.Listing.{filled-more}
 use Rattle.relax.specs.Guard.{Kept}
 use Rattle.relax.specs.Settle.{Pass, Passing}
-use Rattle.relax.specs.Hold.{Holding}
+use Rattle.relax.specs.Hold.{Held, at-zero, by-operand, by-difference}
 use Rattle.relax.proofs.Closed.{Closed, well-closed, inside, ready-step}
 use Rattle.relax.proofs.Guard.{legal-node, legal-diffs, ok-legal}
 use Rattle.relax.proofs.Forced.{ok-same}
+use Rattle.relax.proofs.Held.{well-climb, held-bound}
 use Rattle.relax.proofs.Passes.{pass-start, pass-again, pass-least, pass-floats, Moved, height, height-grows, height-bound}
 use Rattle.relax.proofs.Loop.{passing-pass, passing-grows, passing-heeds}
 use Rattle.bound.specs.Lookup.{labelIn, labelsIn, Linked}
 use Rattle.bound.specs.Bound.{HoldsAt}
 use Rattle.bound.specs.Going.{Given, AllKept, Going}
-use Rattle.bound.proofs.Safety.{node-in, latency-is, delay-is, difference-in, kept-at, holds-at}
-use Rattle.schedule.specs.Mark.{heldIn, HeldAll}
-use Rattle.schedule.specs.Round.{First, Relaxed, heightIn, heightMost}
+use Rattle.bound.proofs.Safety.{node-in, latency-is, delay-is, graph-falls, difference-in, kept-at, holds-at}
+use Rattle.hold.specs.Mark.{HeldIn, zero-in, operand-in, target-in}
+use Rattle.schedule.specs.Round.{First, Relaxed, heightIn, heightMost, heldMost, roundsMost}
+
+-- the first labels, one node after the other: none yet, and one more
+pub first-none : {graph steps levels : List ℕ} {horizon : ℕ} → steps ≡ replicate 256 0 → levels ≡ replicate 256 0 → First graph steps levels 0 horizon
+first-none e f =
+    record {
+      steps-wide = ap length e ∙ length-replicate {A = ℕ} 256 0;
+      levels-wide = ap length f ∙ length-replicate {A = ℕ} 256 0;
+      steps-zero = λ v. ap (λ (l : List ℕ). getD l v 0) e ∙ zeros-at 256 v;
+      levels-delay = λ v h. absurd (not-suc-le-zero h);
+      ends = λ v h. absurd (not-suc-le-zero h);
+    }
+
+pub first-more : {graph steps levels steps′ levels′ : List ℕ} {horizon : ℕ} (v s d : ℕ) → v < 256 → First graph steps levels v horizon → latencyIn graph v ≤ horizon
+    → s ≡ 0 → d ≡ delayIn graph v → steps′ ≡ set steps v s → levels′ ≡ set levels v d → First graph steps′ levels′ (v + 1) horizon
+first-more {graph} {steps} {levels} v s d low g ends z delay e f =
+    record {
+      steps-wide = ap length e ∙ length-set steps v s ∙ g .steps-wide;
+      levels-wide = ap length f ∙ length-set levels v d ∙ g .levels-wide;
+      steps-zero = λ u. ap (λ (l : List ℕ). getD l u 0) e ∙ still u (ℕ-discrete u v);
+      levels-delay = λ u h.
+          ap (λ (l : List ℕ). getD l u 0) (f ∙ ap (set levels v) delay) ∙ filled-more (delayIn graph) levels v (omega (arith, g .levels-wide)) (g .levels-delay) u h;
+      ends = below-more _ _ (g .ends) ends;
+    }
+  where
+    still : (u : ℕ) → Dec (u ≡ v) → getD (set steps v s) u 0 ≡ 0
+    still u (yes q) = ap (λ (i : ℕ). getD (set steps v s) i 0) q ∙ getD-set-same steps v s 0 (omega (arith, g .steps-wide)) ∙ z
+    still u (no n) = getD-set-other steps v u s 0 n ∙ g .steps-zero u
 
 -- how far the labels have risen, as a sum
 height-sum : (n top : ℕ) (steps levels : List ℕ) → heightIn n top steps levels ≡ total (λ v. key (top + 1) (labelIn steps levels v)) n
@@ -55,6 +90,18 @@ module _ {S : Sheet} {graph differences : List ℕ} {limits : R.Header} (g : Giv
   most-is : heightMost limits ≡ size S * ((S .horizon + 1) * (S .top + 1))
   unfolding heightMost
   most-is = rw (g .nodes, g .horizon, g .top)
+
+  -- which is a number of the code's, twice over
+  pub most-fits : heightMost limits < 2147483648
+  most-fits =
+      let x : (S .horizon + 1) * (S .top + 1) ≤ 4096 * (S .top + 1) = mul-le-mul-right (S .top + 1) (omega (arith, g .well .horizon .most)) in
+      let y : size S * ((S .horizon + 1) * (S .top + 1)) ≤ 256 * ((S .horizon + 1) * (S .top + 1)) =
+      mul-le-mul-right ((S .horizon + 1) * (S .top + 1)) (g .well .size .most) in
+      omega (arith, most-is, g .well .top .most)
+
+  held-is : heldMost limits ≡ size S * (((size S - 1) * weightMost + 1) * (S .top + 1))
+  unfolding heldMost
+  held-is = rw (g .nodes, g .top)
 
   -- the start
   pub first-going : {first next kept steps levels : List ℕ} → Linked differences (limits .differences) first next → AllKept S kept
@@ -81,42 +128,60 @@ module _ {S : Sheet} {graph differences : List ℕ} {limits : R.Header} (g : Giv
   pub first-late : (v : ℕ) → v < limits .nodes → limits .horizon < latencyIn graph v → NoneLegal S
   first-late v l h M legal = omega (arith, legal .nodes v (node-in g v l .0) .ends, latency-is g v l, g .horizon)
 
-  -- the marks of a table are closed under holding
-  held-holding : (steps levels held : List ℕ) → HeldAll graph differences steps held (limits .nodes) (limits .differences) → Holding S (labelIn steps levels) (heldIn held)
-  held-holding steps levels held h =
-      record {
-        zero-held = λ v l e. h .zero-held v (omega (arith, g .nodes)) e;
-        operands = λ v u l r p near.
-            All-at (Pulls v) (node S v .operands) (All-ids (Pulls v) 0 (node S v .operands) (λ j k. operand v l j k)) (mem-out u (node S v .operands) r) p near;
-        differences = λ d m. All-at Pushes (S .differences) (All-ids Pushes noDifference (S .differences) (λ i l. target i l)) m;
-      }
-    where
-      Pulls : ℕ → ℕ → Type 0
-      Pulls v u = heldIn held u ≡ true → getD steps v 0 ≤ getD steps u 0 + latency S u + 1 → heldIn held v ≡ true
+  -- the held set over the tables is the sheet's
+  module _ (steps levels : List ℕ) where
+    abbrev pub HeldAt : ℕ → Type 0
+    HeldAt v = HeldIn graph differences steps (limits .nodes) (limits .differences) v
 
-      operand : (v : ℕ) → v < size S → (j : ℕ) → j < length (node S v .operands) → Pulls v (getD (node S v .operands) j 0)
-      operand v l j k p near =
-          let n : v < limits .nodes = omega (arith, g .nodes) in
-          let w = node-in g v n .1 in
-          let u = getD (node S v .operands) j 0 in
-          let e : operandIn graph v j ≡ u = g .tabled .operands v j w k in
-          let b : u < v = All-get (λ u. u < v) 0 (node S v .operands) (operands-below S (g .well) v) j k in
-          h .operands v n j (omega (arith, g .tabled .counts v w))
-          (record {
-            holds = subst (λ (x : ℕ). heldIn held x ≡ true) (sym e) p;
-            close = omega (arith, ap (λ (x : ℕ). getD steps x 0) e, ap (latencyIn graph) e, latency-is g u (omega arith));
-          })
+    pub held-in : (v : ℕ) → HeldAt v → Held S (labelIn steps levels) v
+    held-in v (zero-in u l e) = at-zero v (node-in g v l .0) e
+    held-in v (operand-in u j l h o c) =
+        let w = node-in g v l in
+        let k : j < length (node S v .operands) = omega (arith, g .tabled .counts v (w .1)) in
+        let e : operandIn graph v j ≡ getD (node S v .operands) j 0 = g .tabled .operands v j (w .1) k in
+        let f = graph-falls g .falls v j (w .1) h in
+        by-operand v (operandIn graph v j) (w .0)
+        (subst (λ (u : ℕ). reads S v u ≡ true) (sym e) (mem-in (node S v .operands) (index-mem 0 (node S v .operands) j k)))
+        (held-in (operandIn graph v j) o) (omega (arith, latency-is g (operandIn graph v j) (omega arith)))
+    held-in v (target-in i l o c) =
+        let k : i < length (S .differences) = omega (arith, g .count) in
+        let from = g .listed .froms i k in
+        let to = g .listed .tos i k in
+        subst (Held S (labelIn steps levels)) (sym to)
+        (by-difference (differenceAt S i) (difference-in g i l) (subst (Held S (labelIn steps levels)) from (held-in (fromIn differences i) o))
+        (omega (arith, ap (λ (x : ℕ). getD steps x 0) from, ap (λ (x : ℕ). getD steps x 0) to, g .listed .pluses i k, g .listed .minuses i k)))
 
-      Pushes : Difference → Type 0
-      Pushes d = heldIn held (d .from) ≡ true → getD steps (d .to) 0 + d .minus ≤ getD steps (d .from) 0 + d .plus → heldIn held (d .to) ≡ true
+    abbrev Pulls : ℕ → ℕ → Type 0
+    Pulls v u = HeldAt u → getD steps v 0 ≤ getD steps u 0 + latency S u + 1 → HeldAt v
 
-      target : (i : ℕ) → i < length (S .differences) → Pushes (differenceAt S i)
-      target i l p near =
-          let from = g .listed .froms i l in
-          let to = g .listed .tos i l in
-          subst (λ (x : ℕ). heldIn held x ≡ true) to
-          (h .targets i (omega (arith, g .count)) (subst (λ (x : ℕ). heldIn held x ≡ true) (sym from) p)
-          (omega (arith, ap (λ (x : ℕ). getD steps x 0) from, ap (λ (x : ℕ). getD steps x 0) to, g .listed .pluses i l, g .listed .minuses i l)))
+    operand : (v : ℕ) → v < size S → (j : ℕ) → j < length (node S v .operands) → Pulls v (getD (node S v .operands) j 0)
+    operand v l j k p near =
+        let n : v < limits .nodes = omega (arith, g .nodes) in
+        let w = node-in g v n .1 in
+        let u = getD (node S v .operands) j 0 in
+        let e : operandIn graph v j ≡ u = g .tabled .operands v j w k in
+        let b : u < v = All-get (λ u. u < v) 0 (node S v .operands) (operands-below S (g .well) v) j k in
+        operand-in v j n (omega (arith, g .tabled .counts v w)) (subst HeldAt (sym e) p)
+        (omega (arith, ap (λ (x : ℕ). getD steps x 0) e, ap (latencyIn graph) e, latency-is g u (omega arith)))
+
+    abbrev Pushes : Difference → Type 0
+    Pushes d = HeldAt (d .from) → getD steps (d .to) 0 + d .minus ≤ getD steps (d .from) 0 + d .plus → HeldAt (d .to)
+
+    target : (i : ℕ) → i < length (S .differences) → Pushes (differenceAt S i)
+    target i l p near =
+        let from = g .listed .froms i l in
+        let to = g .listed .tos i l in
+        subst HeldAt to
+        (target-in i (omega (arith, g .count)) (subst HeldAt (sym from) p)
+        (omega (arith, ap (λ (x : ℕ). getD steps x 0) from, ap (λ (x : ℕ). getD steps x 0) to, g .listed .pluses i l, g .listed .minuses i l)))
+
+    pub in-held : (v : ℕ) → Held S (labelIn steps levels) v → HeldAt v
+    in-held v (at-zero u l e) = zero-in v (omega (arith, g .nodes)) e
+    in-held v (by-operand w u l r k near) =
+        All-at (Pulls v) (node S v .operands) (All-ids (Pulls v) 0 (node S v .operands) (λ j h. operand v l j h)) (mem-out u (node S v .operands) r)
+        (in-held u k) near
+    in-held v (by-difference d m k near) =
+        All-at Pushes (S .differences) (All-ids Pushes noDifference (S .differences) (λ i l. target i l)) m (in-held (d .from) k) near
 
 -- after a pass that settled every node
 module _ {S : Sheet} {graph differences : List ℕ} {limits : R.Header} {first next kept steps levels : List ℕ}
@@ -140,21 +205,32 @@ module _ {S : Sheet} {graph differences : List ℕ} {limits : R.Header} {first n
           let k : i < limits .differences = omega (arith, g .count) in kept-at g steps i k (h i k))
 
   -- a node floats
-  pub round-floats : (held : List ℕ) → HeldAll graph differences steps held (limits .nodes) (limits .differences) → (v : ℕ) → v < limits .nodes → heldIn held v ≡ false → NoneLegal S
-  round-floats held h v l e M legal =
-      pass-floats S (closed g) (labelIn steps levels) ended (heldIn held) (held-holding g steps levels held h) v (node-in g v l .0) e M (S .horizon) legal
+  pub round-floats : (v : ℕ) → v < limits .nodes → (HeldIn graph differences steps (limits .nodes) (limits .differences) v → ⊥) → NoneLegal S
+  round-floats v l n M legal =
+      pass-floats S (closed g) (labelIn steps levels) ended v (node-in g v l .0) (λ h. n (in-held g steps levels v h)) M (S .horizon) legal
+
+  -- none does: the labels have risen no further than held nodes can, whatever the horizon
+  pub round-held : ((v : ℕ) → v < limits .nodes → HeldIn graph differences steps (limits .nodes) (limits .differences) v)
+      → heightIn (limits .nodes) (limits .top) steps levels ≤ heldMost limits
+  round-held all =
+      let b = height-bound S (labelIn steps levels) ((size S - 1) * weightMost) (ended .high)
+      (held-bound S (closed g) (labelIn steps levels) weightMost (well-climb S (g .well)) (λ v l. held-in g steps levels v (all v (omega (arith, g .nodes))))) in
+      omega (arith, height-is g steps levels, held-is g)
 
   -- a difference does not hold: its source has risen
   pub round-again : (i : ℕ) → i < limits .differences → (HoldsAt differences steps i → ⊥)
+      → (test : Bool) → (test ≡ true → heightIn (limits .nodes) (limits .top) steps levels ≤ heldMost limits)
       → Going S graph differences limits first next kept steps levels
       × Pass S (labelIn steps levels) 0
       × (heightIn (limits .nodes) (limits .top) steps₀ levels₀ < heightIn (limits .nodes) (limits .top) steps levels)
       × (heightIn (limits .nodes) (limits .top) steps levels ≤ heightMost limits)
-  round-again i l fails = (
+      × (test ≡ true → heightIn (limits .nodes) (limits .top) steps levels ≤ heldMost limits)
+  round-again i l fails test held = (
     going,
     pass-again S (labelIn steps levels) (size S) ended,
     omega (arith, height-is g steps₀ levels₀, height-is g steps levels, height-grows S (labelIn steps₀ levels₀) (labelIn steps levels) moved),
     omega (arith, height-is g steps levels, most-is g, height-bound S (labelIn steps levels) (S .horizon) (ended .high) (λ v k. omega (arith, going .timed .ends v k))),
+    held,
   )
     where
       d : Difference
@@ -251,6 +327,27 @@ latency-is-most S graph steps levels n few t e =
           t .latencies v (omega arith),
         )
 
--- what is left to rise
-pub closer : (most h k : ℕ) → h < k → k ≤ most → most - k < most - h
-closer most h k p q = omega arith
+-- the rounds so far are few, and the next test is near: the labels rise in each round, and at the last test they had risen no further than
+-- held nodes can. So twice that many rounds, and two, are the most, whatever the horizon
+pub record Few (limits : R.Header) (height rounds next : ℕ) : Type 0 where
+  pub risen : rounds ≤ height
+  pub early : rounds < next
+  pub near : next ≤ roundsMost limits
+  pub fits : next < 4294967296
+
+-- how many rounds there can still be falls
+pub few-left : (limits : R.Header) (height rounds next : ℕ) → Few limits height rounds next
+    → roundsMost limits - (rounds + 1) < roundsMost limits - rounds
+few-left limits height rounds next few = omega (arith, few .early, few .near)
+
+pub few-none : (limits : R.Header) (height : ℕ) → Few limits height 0 2
+few-none limits height = record { risen = omega arith; early = omega arith; near = omega arith; fits = omega arith }
+
+module _ (limits : R.Header) (h k rounds next : ℕ) (few : Few limits h rounds next) (up : h < k) where
+  -- a round without the test, and one with it
+  pub few-more : (rounds + 1 ≡ next → ⊥) → Few limits k (rounds + 1) next
+  few-more n = record { risen = omega (arith, few .risen); early = omega (arith, few .early, n); near = few .near; fits = few .fits }
+
+  pub few-tested : rounds + 1 ≡ next → k ≤ heldMost limits → k < 2147483648 → Few limits k (rounds + 1) (next * 2)
+  few-tested e b s =
+      record { risen = omega (arith, few .risen); early = omega arith; near = omega (arith, few .risen); fits = omega (arith, few .risen) }

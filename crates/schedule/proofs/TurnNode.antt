@@ -1,25 +1,26 @@
 -- The label that settles a node in its turn, and the cuts that are kept beside it.
-use Prim.Native.Nat.{ℕ, _+_, _*_, _≤_, _<_}
+use Prim.Native.Nat.{ℕ, _≤_, _<_}
 use mathlib.Core.Path.{_≡_, refl, sym, subst, ap, _∙_}
 use mathlib.Core.Bool.{Bool, true, false}
 use mathlib.Core.List.{List, List·Memᴰ}
 use mathlib.Core.Logic.{_⊎_, inl, inr}
 use native.Mathlib.Omega.{arith}
-use lib.Dec.{eqb, ltb}
+use lib.Dec.{eqb}
 use lib.ListN.{length, getD}
-use borrow.Author.Tests.{eqb-true, eqb-false, ltb-true, ltb-false}
+use borrow.Author.Tests.{eqb-true, eqb-false}
 use Rattle.maps.specs.Label.{Label, _≼_}
 use Rattle.maps.specs.Lists.{All}
 use Rattle.maps.specs.Sheet.{Sheet, Kind, input, logic, box, node, size, isLogic}
 use Rattle.maps.specs.Cut.{logicNode}
-use Rattle.maps.specs.Read.{rangesOf}
-use Rattle.maps.specs.WellFormed.{Within, codeOf, WellFormed}
+use Rattle.maps.specs.WellFormed.{WellFormed}
 use Rattle.maps.proofs.Member.{All-of, All-ids, All-get}
 use Rattle.maps.proofs.Planned.{delays, operands-below}
-use Rattle.sheet.specs.Table.{kindIn, delayIn, countIn, operandIn}
+use Rattle.sheet.specs.Table.{kindAt, delayIn, countIn, operandIn}
 use Rattle.sheet.specs.declared.reader.Header as R
+use Rattle.sheet.proofs.Tables.{kind-tabled}
 use Rattle.relax.specs.Guard.{Forced}
-use Rattle.relax.specs.Settle.{arrives, By, Settles, Pass}
+use Rattle.maps.specs.Legal.{arrives}
+use Rattle.relax.specs.Settle.{By, Settles, Pass}
 use Rattle.relax.proofs.Closed.{Closed, well-closed}
 use Rattle.relax.proofs.Forced.{forced-operand}
 use Rattle.relax.proofs.Passes.{base-forced, base-level, settles-from, settles-input, arrives-level}
@@ -28,18 +29,12 @@ use Rattle.bound.specs.Bound.{Latest}
 use Rattle.bound.specs.Going.{Given, Keeps, AllKept, Going, Based}
 use Rattle.bound.proofs.Safety.{node-in, latency-is, delay-is}
 use Rattle.level.specs.Carry.{Placed}
+use Rattle.level.proofs.CutRows.{count-beside, leaf-beside}
 
 -- a kept cut beside a row that changed is as it was
 pub kept-beside : {S : Sheet} {kept more : List ℕ} {v : ℕ} → WellFormed S → AllKept S kept → length more ≡ 2048 → Beside v kept more → Keeps S more v → AllKept S more
 kept-beside {S} {kept} {more} {v} well all wide beside mine = record { wide = wide; keeps = λ w l g. keeps w l g (eqb w v) refl }
   where
-    off : (w i : ℕ) → (w ≡ v → ⊥) → w * 8 ≤ i → i < w * 8 + 8 → (i < v * 8) ⊎ (v * 8 + 8 ≤ i)
-    off w i n from to = go (ltb w v) refl
-      where
-        go : (t : Bool) → ltb w v ≡ t → (i < v * 8) ⊎ (v * 8 + 8 ≤ i)
-        go true e = inl (omega (arith, ltb-true))
-        go false e = inr (omega (arith, ltb-false))
-
     keeps : (w : ℕ) → w < size S → logicNode S w ≡ true → (t : Bool) → eqb w v ≡ t → Keeps S more w
     keeps w l g true e = subst (Keeps S more) (sym (eqb-true w v e)) mine
     keeps w l g false e =
@@ -49,8 +44,8 @@ kept-beside {S} {kept} {more} {v} well all wide beside mine = record { wide = wi
           leaves = k .leaves;
           fitting = k .fitting;
           row = record {
-            count = beside (w * 8) (off w (w * 8) n (omega arith) (omega arith)) ∙ k .row .count;
-            leaves = λ j h. beside (w * 8 + 1 + j) (off w (w * 8 + 1 + j) n (omega arith) (omega (arith, k .fitting .fits, well .leaves .most))) ∙ k .row .leaves j h;
+            count = count-beside v kept more beside w n ∙ k .row .count;
+            leaves = λ j h. leaf-beside v kept more beside w n j (omega (arith, k .fitting .fits, well .leaves .most)) ∙ k .row .leaves j h;
           };
         }
 
@@ -65,21 +60,17 @@ module _ {S : Sheet} {graph differences : List ℕ} {limits : R.Header} {first n
   inside : v < size S
   inside = node-in g v l .0
 
-  kind-logic : kindIn graph v ≡ 1 → node S v .kind ≡ logic
-  kind-logic e = go (node S v .kind) (sym (g .tabled .kinds v (node-in g v l .1)) ∙ e)
-    where
-      go : (k : Kind) → codeOf k ≡ 1 → k ≡ logic
-      go input q = absurd (omega arith)
-      go logic q = refl
-      go (box lat) q = absurd (omega arith)
+  -- the kind that the table has is the node's
+  pub kind-is : (k : Kind) → k ≡ kindAt graph v → node S v .kind ≡ k
+  kind-is k e = sym (e ∙ kind-tabled S graph (g .tabled) v (node-in g v l .1))
 
-  pub placed : kindIn graph v ≡ 1 → Placed S graph v (limits .leaves) (limits .top)
+  pub placed : node S v .kind ≡ logic → Placed S graph v limits
   placed e =
       record {
         well = g .well;
         tabled = g .tabled;
         node = inside;
-        logic = ap isLogic (kind-logic e);
+        logic = ap isLogic e;
         leaves = g .leaves;
         tops = g .top;
       }
@@ -108,9 +99,19 @@ module _ {S : Sheet} {graph differences : List ℕ} {limits : R.Header} {first n
     counted : countIn graph v ≡ length (node S v .operands)
     counted = g .tabled .counts v (node-in g v l .1)
 
-    -- an input or a box: the latest of its base label and its operands' arrivals
-    pub settles-latest : {r : Label} → Latest graph steps levels v (limits .top) (countIn graph v) a r → (kindIn graph v ≡ 1 → ⊥) → Settles S (labelIn steps levels) v r
-    settles-latest {r} latest other = go (node S v .kind) refl
+    -- an input: its base label
+    pub settles-base : node S v .kind ≡ input → Settles S (labelIn steps levels) v a
+    settles-base e =
+        subst (Settles S (labelIn steps levels) v) (sym (based .base))
+        (settles-input S closed (delays S (g .well)) (labelIn steps levels) v inside p (based .step) (based .asks) e)
+
+    -- a box: the latest of its base label and its operands' arrivals
+    pub settles-latest : {r : Label} (lat : ℕ) → node S v .kind ≡ box lat → Latest graph steps levels v (limits .top) (countIn graph v) a r
+        → Settles S (labelIn steps levels) v r
+    settles-latest {r} lat e latest =
+        let b = bound (latest .one) in
+        settles-from S closed (delays S (g .well)) (labelIn steps levels) v inside p (based .step) (based .asks) r
+        (subst (λ (c : Label). c ≼ r) (based .base) (latest .from)) (b .0) (b .1) (b .2) (subst (By S (labelIn steps levels) v r) (sym e) all)
       where
         Bound : Label → Type 0
         Bound c = Forced S (labelIn steps levels) v c × (node S v .delay ≤ c .level) × (c .level ≤ S .top)
@@ -124,9 +125,9 @@ module _ {S : Sheet} {graph differences : List ℕ} {limits : R.Header} {first n
         operand-in j k =
             All-get (λ u. List·Memᴰ u (node S v .operands)) 0 (node S v .operands) (All-of _ (node S v .operands) (λ u m. m)) j k
 
-        bound : (lat : ℕ) → node S v .kind ≡ box lat → (r ≡ a) ⊎ ((j : ℕ) × (j < countIn graph v) × (r ≡ arrivalIn graph steps levels (limits .top) (delayIn graph v) (operandIn graph v j))) → Bound r
-        bound lat e (inl w) = subst Bound (sym w) own
-        bound lat e (inr w) =
+        bound : (r ≡ a) ⊎ ((j : ℕ) × (j < countIn graph v) × (r ≡ arrivalIn graph steps levels (limits .top) (delayIn graph v) (operandIn graph v j))) → Bound r
+        bound (inl w) = subst Bound (sym w) own
+        bound (inr w) =
             let j = w .0 in
             let k : j < length (node S v .operands) = omega (arith, w .1, counted) in
             let u = getD (node S v .operands) j 0 in
@@ -137,19 +138,3 @@ module _ {S : Sheet} {graph differences : List ℕ} {limits : R.Header} {first n
         all =
             All-ids (λ u. arrives S (labelIn steps levels) v u ≼ r) 0 (node S v .operands) (λ j k.
             subst (λ (c : Label). c ≼ r) (operand-is j k) (latest .all j (omega (arith, counted))))
-
-        alone : node S v .kind ≡ input → (r ≡ a) ⊎ ((j : ℕ) × (j < countIn graph v) × (r ≡ arrivalIn graph steps levels (limits .top) (delayIn graph v) (operandIn graph v j))) → r ≡ a
-        alone e (inl w) = w
-        alone e (inr w) =
-            let h = subst (λ (k : Kind). Within (rangesOf (S .top) (codeOf k) .operands) (length (node S v .operands))) e (g .well .nodes v inside .count) in
-            absurd (omega (arith, w .1, counted, h .most))
-
-        go : (k : Kind) → node S v .kind ≡ k → Settles S (labelIn steps levels) v r
-        go input e =
-            subst (Settles S (labelIn steps levels) v) (sym (alone e (latest .one) ∙ based .base))
-            (settles-input S closed (delays S (g .well)) (labelIn steps levels) v inside p (based .step) (based .asks) e)
-        go logic e = absurd (other (g .tabled .kinds v (node-in g v l .1) ∙ ap codeOf e))
-        go (box lat) e =
-            let b = bound lat e (latest .one) in
-            settles-from S closed (delays S (g .well)) (labelIn steps levels) v inside p (based .step) (based .asks) r
-            (subst (λ (c : Label). c ≼ r) (based .base) (latest .from)) (b .0) (b .1) (b .2) (subst (By S (labelIn steps levels) v r) (sym e) all)

@@ -1,6 +1,6 @@
 -- A node's turn, and the turns of a pass: the label that settles a node is written to the tables, or it ends after the horizon.
 use Prim.Native.Nat.{ℕ, _+_, _≤_, _<_, min}
-use mathlib.Core.Path.{_≡_, refl, sym, subst, _∙_}
+use mathlib.Core.Path.{_≡_, refl, sym, subst, ap, _∙_}
 use mathlib.Core.Bool.{Bool, true, false}
 use mathlib.Core.List.{List}
 use native.Mathlib.Numerals.{add-one}
@@ -9,7 +9,8 @@ use lib.Dec.{eqb}
 use lib.ListN.{length, getD, set, length-set}
 use lib.Seq.{getD-set-same, getD-set-other}
 use borrow.Author.Tests.{eqb-true, eqb-false}
-use Rattle.maps.specs.Label.{Label, label}
+use Rattle.maps.specs.Label.{Label, label, ready}
+use Rattle.maps.specs.Code.{fitted}
 use Rattle.maps.specs.Sheet.{Sheet, size, latency}
 use Rattle.maps.specs.Legal.{NoneLegal}
 use Rattle.maps.proofs.Fix.{label-path}
@@ -17,10 +18,15 @@ use Rattle.sheet.specs.Table.{latencyIn}
 use Rattle.sheet.specs.declared.reader.Header as R
 use Rattle.relax.specs.Guard.{Raised}
 use Rattle.relax.specs.Settle.{Settles, Pass, Passing, onward}
+use Rattle.relax.proofs.Closed.{ready-step}
 use Rattle.relax.proofs.Guard.{legal-node, legal-diffs, guarded-under}
 use Rattle.bound.specs.Lookup.{labelIn}
 use Rattle.bound.specs.Going.{AllKept, Timed, Going}
 use Rattle.bound.proofs.Safety.{node-in, latency-is}
+
+-- the step at which a node ends, from its ready label
+pub ready-end : {r : Label} (lat : ℕ) (b : Label) → r ≡ fitted (ready lat b) → r .step ≡ min (b .step + lat) 4294967295
+ready-end lat b e = ap (λ (a : Label). a .step) e ∙ ap (λ (s : ℕ). min s 4294967295) (ready-step lat b)
 
 -- a write to the two tables of labels
 pub raised-tables : (S : Sheet) (steps levels : List ℕ) (v s l : ℕ) → v < length steps → v < length levels
@@ -42,10 +48,9 @@ module _ {S : Sheet} {graph differences : List ℕ} {limits : R.Header} {first n
       let up = s .forced .forced M (guarded-under S (labelIn steps levels) (p .guarded) M (S .horizon) legal) (legal-node S M legal v inside) (legal-diffs S M legal v) in
       omega (arith, up .steps, legal .nodes v inside .ends, latency-is (going .given) v l, going .given .horizon)
 
-  -- the label in the tables
-  pub turn-going : {more : List ℕ} → AllKept S more → min (b .step + latencyIn graph v) 4294967295 ≤ limits .horizon
+  set-going : {more : List ℕ} → AllKept S more → min (b .step + latencyIn graph v) 4294967295 ≤ limits .horizon
       → Going S graph differences limits first next more (set steps v (b .step)) (set levels v (b .level))
-  turn-going all h =
+  set-going all h =
       record {
         given = going .given;
         linked = going .linked;
@@ -65,6 +70,13 @@ module _ {S : Sheet} {graph differences : List ℕ} {limits : R.Header} {first n
           subst (λ (w : ℕ). getD (set steps v (b .step)) w 0 + latency S w ≤ S .horizon) (sym (eqb-true u v e))
           (omega (arith, getD-set-same steps v (b .step) 0 (omega (arith, going .timed .steps-wide, node-in (going .given) v l .1)), mine))
       ends u k false e = omega (arith, getD-set-other steps v u (b .step) 0 (eqb-false u v e), going .timed .ends u k)
+
+  -- the label in the tables
+  pub turn-going : {more steps′ levels′ : List ℕ} → AllKept S more → min (b .step + latencyIn graph v) 4294967295 ≤ limits .horizon → steps′ ≡ set steps v (b .step)
+      → levels′ ≡ set levels v (b .level) → Going S graph differences limits first next more steps′ levels′
+  turn-going {more} {steps′} {levels′} all h e f =
+      subst (λ (x : List ℕ). Going S graph differences limits first next more x levels′) (sym e)
+      (subst (λ (y : List ℕ). Going S graph differences limits first next more (set steps v (b .step)) y) (sym f) (set-going all h))
 
   -- one more node of the pass
   pub turn-on : (L : ℕ → Label) → Passing S L v (labelIn steps levels) → Settles S (labelIn steps levels) v b → {steps′ levels′ : List ℕ}

@@ -1,9 +1,10 @@
 -- What the start, a round and all rounds answer.
-use Prim.Native.Nat.{ℕ, suc, zero, _+_, _*_, _≤_, _<_}
+use Prim.Native.Nat.{ℕ, suc, zero, _+_, _-_, _*_, _≤_, _<_}
 use mathlib.Core.Path.{_≡_}
-use mathlib.Core.Bool.{Bool}
+use mathlib.Core.Bool.{Bool, true}
 use mathlib.Core.List.{List}
 use lib.ListN.{length, getD}
+use Rattle.maps.specs.Limits.{weightMost}
 use Rattle.maps.specs.Sheet.{Sheet}
 use Rattle.maps.specs.Legal.{Least, NoneLegal}
 use Rattle.sheet.specs.Table.{delayIn, latencyIn}
@@ -36,15 +37,25 @@ heightIn (suc n) top steps levels = heightIn n top steps levels + (getD steps n 
 unfoldable pub heightMost : R.Header → ℕ
 heightMost limits = limits .nodes * ((limits .horizon + 1) * (limits .top + 1))
 
--- least: the labels are the least legal ones. late: nothing is legal within the horizon. again: the labels have risen
-abbrev pub RoundEnds : (S : Sheet) (graph differences : List ℕ) (limits : R.Header) (first next kept steps levels steps' levels' : List ℕ) → Turn → Type 0
-RoundEnds S graph differences limits first next kept steps levels steps' levels' Is.Least = Least S (S .horizon) (labelIn steps' levels')
-RoundEnds S graph differences limits first next kept steps levels steps' levels' Is.Late = NoneLegal S
-RoundEnds S graph differences limits first next kept steps levels steps' levels' Is.Again =
+-- the most that they can where every node is held, whatever the horizon
+unfoldable pub heldMost : R.Header → ℕ
+heldMost limits = limits .nodes * (((limits .nodes - 1) * weightMost + 1) * (limits .top + 1))
+
+-- the most rounds that there can be, whatever the horizon
+abbrev pub roundsMost : R.Header → ℕ
+roundsMost limits = heldMost limits + heldMost limits + 2
+
+-- least: the labels are the least legal ones. late: nothing is legal within the horizon. again: the labels have risen, and where the test for
+-- floating nodes was asked for no further than held nodes can
+abbrev pub RoundEnds : (S : Sheet) (graph differences : List ℕ) (limits : R.Header) (first next kept steps levels steps' levels' : List ℕ) (test : Bool) → Turn → Type 0
+RoundEnds S graph differences limits first next kept steps levels steps' levels' test Is.Least = Least S (S .horizon) (labelIn steps' levels')
+RoundEnds S graph differences limits first next kept steps levels steps' levels' test Is.Late = NoneLegal S
+RoundEnds S graph differences limits first next kept steps levels steps' levels' test Is.Again =
     Going S graph differences limits first next kept steps' levels'
     × Pass S (labelIn steps' levels') 0
     × (heightIn (limits .nodes) (limits .top) steps levels < heightIn (limits .nodes) (limits .top) steps' levels')
     × (heightIn (limits .nodes) (limits .top) steps' levels' ≤ heightMost limits)
+    × (test ≡ true → heightIn (limits .nodes) (limits .top) steps' levels' ≤ heldMost limits)
 
 -- the labels are the least legal ones, or nothing is legal within the horizon
 abbrev pub Relaxed : (S : Sheet) (steps levels : List ℕ) → Bool → Type 0

@@ -9,9 +9,19 @@ use Rattle.maps.specs.Sheet.{Sheet, size}
 use Rattle.maps.specs.Legal.{NoneLegal}
 use Rattle.sheet.specs.declared.reader.Header as R
 use Rattle.cut.specs.Search.{Ends}
-use Rattle.relax.specs.Settle.{Settles, Passing}
+use Rattle.relax.specs.Settle.{Settles, Pass, Passing}
 use Rattle.bound.specs.Lookup.{labelIn}
 use Rattle.bound.specs.Going.{AllKept, Going}
+
+-- The tables that a pass works on, in one list: those of the sheet, the differences by their targets, the kept cuts and the labels.
+module _ (graph differences : List ℕ) (limits : R.Header) (first next kept steps levels : List ℕ) (v : ℕ) where
+  -- a pass over the sheet of these tables has come to node v
+  abbrev pub Underway : Type 0
+  Underway = (S : Sheet) × Going S graph differences limits first next kept steps levels × Pass S (labelIn steps levels) v
+
+  -- what holds of every sheet of these tables, over which a pass has come to node v
+  abbrev pub Onward : (Sheet → Type 0) → Type 0
+  Onward P = (S : Sheet) → Going S graph differences limits first next kept steps levels → Pass S (labelIn steps levels) v → P S
 
 -- a settles v, and a cut of each logic node is kept
 pub record SettledNode (S : Sheet) (kept steps levels : List ℕ) (v : ℕ) (a : Label) : Type 0 where

@@ -8,19 +8,27 @@ ghost use Rattle.maps.specs.Least.{at, leastLabels, late, least};
 ghost use Rattle.maps.specs.Outcome.{cutless};
 ghost use Rattle.sheet.specs.Table.{Tabled};
 ghost use Rattle.cut.specs.Search.{Ends};
-ghost use Rattle.relax.specs.Settle.{Pass};
-ghost use Rattle.bound.specs.Lookup.{labelIn, labelsIn, Soon};
-ghost use Rattle.bound.specs.Going.{Given, AllKept, Going};
+ghost use Rattle.bound.specs.Lookup.{labelsIn, Soon};
+ghost use Rattle.bound.specs.Going.{Given, AllKept};
+ghost use Rattle.schedule.specs.Turn.{Underway, Onward};
 ghost use Rattle.schedule.specs.Round.{Started, RoundEnds, Relaxed};
-use crate::float::floats;
 use crate::pass::differences_hold;
 use crate::pass::pass;
-use bound::greater;
+use bound::Levels;
+use bound::Steps;
+use bound::clear_labels;
 use bound::link;
-use level::wider;
+use bound::ready_step;
+use bound::set_label;
+use hold::floats;
+use level::Cuts;
 use maps::Label;
 use maps::Step;
+use sheet::Differences;
+use sheet::Graph;
 use sheet::Header;
+use sheet::delay_in;
+use sheet::latency_in;
 
 // What a round comes to.
 pub enum Turn {
@@ -30,27 +38,20 @@ pub enum Turn {
 }
 
 // The first labels: the earliest, with each node's delay as level. False where a latency alone is past the horizon.
-pub fn start(
-    graph: &[u32; 3072],
-    steps: &mut [u32; 256],
-    levels: &mut [u32; 256],
-    n: u32,
-    horizon: u32,
-) -> bool
+pub fn start(graph: &Graph, steps: &mut Steps, levels: &mut Levels, n: u32, horizon: u32) -> bool
     requires { ⌜ n ≤ 256 ⌝ }
     ensures { λ r. ⌜ Started (now (graph .entry)) (now (steps .exit)) (now (levels .exit)) n horizon r ⌝ }
 {
-    let first = Label::earliest();
+    clear_labels(steps, levels);
+    let first = Label::EARLIEST;
     let step = first.step;
-    let level = first.level;
-    *steps = [step.0; 256];
-    *levels = [level.0; 256];
-    let mut v: usize = 0;
-    while v < n as usize {
-        if graph[v * 12 + 3] > horizon {
+    let mut v: u32 = 0;
+    while v < n {
+        let latency = latency_in(graph, v);
+        if latency.0 > horizon {
             return false;
         }
-        levels[v] = graph[v * 12 + 2];
+        set_label(steps, levels, v, Label::at(step, delay_in(graph, v)));
         v += 1;
     }
     true
@@ -58,54 +59,28 @@ pub fn start(
 
 // A pass, and whether it was the last; `test` asks for the floating-set test too.
 pub fn round(
-    graph: &[u32; 3072],
-    differences: &[u32; 4096],
+    graph: &Graph,
+    differences: &Differences,
     limits: Header,
     first: &[u32; 256],
     next: &[u32; 1024],
-    kept: &mut [u32; 2048],
-    steps: &mut [u32; 256],
-    levels: &mut [u32; 256],
-    code: &mut [u8; 256],
-    seen: &mut [u8; 512],
-    above: &mut [u32; 256],
-    cut: &mut [u32; 8],
-    held: &mut [u8; 256],
+    kept: &mut Cuts,
+    steps: &mut Steps,
+    levels: &mut Levels,
     test: bool,
 ) -> Turn
-    requires { ⌜ ((S : Sheet) × Going S (now graph) (now differences) limits (now first) (now next) (now kept) (now steps) (now levels) × Pass S (labelIn (now steps) (now levels)) 0) ⌝ }
-    ensures { λ r. ⌜ ((S : Sheet) → Going S (now (graph .entry)) (now (differences .entry)) limits (now (first .entry)) (now (next .entry)) (now (kept .entry)) (now (steps .entry)) (now (levels .entry))
-        → Pass S (labelIn (now (steps .entry)) (now (levels .entry))) 0
-        → RoundEnds S (now (graph .entry)) (now (differences .entry)) limits (now (first .entry)) (now (next .entry)) (now (kept .exit)) (now (steps .entry)) (now (levels .entry)) (now (steps .exit)) (now (levels .exit)) r) ⌝ }
+    requires { ⌜ Underway (now graph) (now differences) limits (now first) (now next) (now kept) (now steps) (now levels) 0 ⌝ }
+    ensures { λ r. ⌜ Onward (now (graph .entry)) (now (differences .entry)) limits (now (first .entry)) (now (next .entry)) (now (kept .entry)) (now (steps .entry)) (now (levels .entry)) 0
+        (λ S. RoundEnds S (now (graph .entry)) (now (differences .entry)) limits (now (first .entry)) (now (next .entry)) (now (kept .exit)) (now (steps .entry)) (now (levels .entry)) (now (steps .exit)) (now (levels .exit)) test r) ⌝ }
 {
-    if !pass(
-        graph,
-        differences,
-        limits,
-        first,
-        next,
-        kept,
-        steps,
-        levels,
-        code,
-        seen,
-        above,
-        cut,
-    ) {
+    if !pass(graph, differences, limits, first, next, kept, steps, levels) {
         return Turn::Late;
     }
     if differences_hold(differences, steps, limits.differences) {
         return Turn::Least;
     }
     if test {
-        if floats(
-            graph,
-            differences,
-            steps,
-            held,
-            limits.nodes,
-            limits.differences,
-        ) {
+        if floats(graph, differences, steps, limits.nodes, limits.differences) {
             return Turn::Late;
         }
     }
@@ -114,31 +89,23 @@ pub fn round(
 
 // Rounds until one is the last, with the floating-set test after 2, 4, 8, .. of them.
 pub fn relax(
-    graph: &[u32; 3072],
-    differences: &[u32; 4096],
+    graph: &Graph,
+    differences: &Differences,
     limits: Header,
     first: &[u32; 256],
     next: &[u32; 1024],
-    kept: &mut [u32; 2048],
-    steps: &mut [u32; 256],
-    levels: &mut [u32; 256],
-    code: &mut [u8; 256],
-    seen: &mut [u8; 512],
-    above: &mut [u32; 256],
-    cut: &mut [u32; 8],
-    held: &mut [u8; 256],
+    kept: &mut Cuts,
+    steps: &mut Steps,
+    levels: &mut Levels,
 ) -> bool
-    requires { ⌜ ((S : Sheet) × Going S (now graph) (now differences) limits (now first) (now next) (now kept) (now steps) (now levels) × Pass S (labelIn (now steps) (now levels)) 0) ⌝ }
-    ensures { λ r. ⌜ ((S : Sheet) → Going S (now (graph .entry)) (now (differences .entry)) limits (now (first .entry)) (now (next .entry)) (now (kept .entry)) (now (steps .entry)) (now (levels .entry))
-        → Pass S (labelIn (now (steps .entry)) (now (levels .entry))) 0 → Relaxed S (now (steps .exit)) (now (levels .exit)) r) ⌝ }
+    requires { ⌜ Underway (now graph) (now differences) limits (now first) (now next) (now kept) (now steps) (now levels) 0 ⌝ }
+    ensures { λ r. ⌜ Onward (now (graph .entry)) (now (differences .entry)) limits (now (first .entry)) (now (next .entry)) (now (kept .entry)) (now (steps .entry)) (now (levels .entry)) 0 (λ S. Relaxed S (now (steps .exit)) (now (levels .exit)) r) ⌝ }
 {
-    let mut left: u32 = 2;
-    let mut gap: u32 = 2;
+    let mut rounds: u32 = 0;
+    let mut next_test: u32 = 2;
     loop {
-        if left > 0 {
-            left -= 1;
-        }
-        let test = left == 0;
+        rounds += 1;
+        let test = rounds == next_test;
         let turn = round(
             graph,
             differences,
@@ -148,11 +115,6 @@ pub fn relax(
             kept,
             steps,
             levels,
-            code,
-            seen,
-            above,
-            cut,
-            held,
             test,
         );
         match turn {
@@ -161,24 +123,19 @@ pub fn relax(
             Turn::Again => {}
         }
         if test {
-            left = gap;
-            gap = wider(gap);
+            next_test *= 2;
         }
     }
 }
 
 // Writes the least legal labels within the horizon; false where no labelling is legal within it. `kept` has a fitting cut of each logic node.
 pub fn least_labels(
-    graph: &[u32; 3072],
-    differences: &[u32; 4096],
+    graph: &Graph,
+    differences: &Differences,
     limits: Header,
-    kept: &mut [u32; 2048],
-    steps: &mut [u32; 256],
-    levels: &mut [u32; 256],
-    code: &mut [u8; 256],
-    seen: &mut [u8; 512],
-    above: &mut [u32; 256],
-    cut: &mut [u32; 8],
+    kept: &mut Cuts,
+    steps: &mut Steps,
+    levels: &mut Levels,
 ) -> bool
     requires { ⌜ ((S : Sheet) × Given S (now graph) (now differences) limits × AllKept S (now kept)) ⌝ }
     ensures { λ r. ⌜ ((S : Sheet) → Given S (now (graph .entry)) (now (differences .entry)) limits → AllKept S (now (kept .entry)) → cutless S ≡ []
@@ -186,7 +143,6 @@ pub fn least_labels(
 {
     let mut first = [0u32; 256];
     let mut next = [0u32; 1024];
-    let mut held = [0u8; 256];
     if !start(graph, steps, levels, limits.nodes, limits.horizon) {
         return false;
     }
@@ -200,26 +156,20 @@ pub fn least_labels(
         kept,
         steps,
         levels,
-        code,
-        seen,
-        above,
-        cut,
-        &mut held,
     )
 }
 
 // The greatest step among the ready labels of n nodes.
-pub fn latency(graph: &[u32; 3072], steps: &[u32; 256], n: u32) -> Step
+pub fn latency(graph: &Graph, steps: &Steps, n: u32) -> Step
     requires { ⌜ n ≤ 256 ⌝ }
     requires { ⌜ ((u : ℕ) → u < n → Soon (now graph) (now steps) u) ⌝ }
     ensures { λ r. ⌜ ((S : Sheet) (levels : List ℕ) → Tabled S (now (graph .entry)) → n ≡ size S → r .0 ≡ latencyOfAll S (at (labelsIn n (now (steps .entry)) levels))) ⌝ }
 {
-    let mut most: u32 = 0;
-    let mut v: usize = 0;
-    while v < n as usize {
-        let ready = steps[v] + graph[v * 12 + 3];
-        most = greater(most, ready);
-        v += 1;
+    let mut most = Step(0);
+    let mut u: u32 = 0;
+    while u < n {
+        most = most.later(ready_step(graph, steps, u));
+        u += 1;
     }
-    Step(most)
+    most
 }

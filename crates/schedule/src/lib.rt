@@ -1,5 +1,4 @@
 // The least legal labels of a sheet within its horizon, or that no labelling is legal within it.
-mod float;
 mod labels;
 mod pass;
 

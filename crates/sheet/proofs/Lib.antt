@@ -1,6 +1,6 @@
 pub mod Stores
 pub mod Turns
 pub mod Reading
-pub mod Rows
+pub mod StoredRows
 pub mod Tables
 pub mod After

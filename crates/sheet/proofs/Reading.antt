@@ -10,7 +10,7 @@ use Rattle.maps.specs.Number.{Got, got, refusal, Reader, andThen}
 use Rattle.maps.specs.Sheet.{Sheet, Node, Difference}
 use Rattle.maps.specs.Read.{operand, eachFrom, times, Head, nodeOf, readHead, readNode, readDifference, Header, readHeader, sheetOf, readSheet, Parsed, sheet, refused, whole, parse}
 use Rattle.maps.proofs.Parse.{counted}
-use Rattle.sheet.specs.Table.{nodeRow, headRow, differenceRow, storeFrom, storeRows, nodePlace, differencePlace, noNodes, noDifferences, graphOf, differencesOf, headerOf, Answer, header, answerNumber, answerPlace, Tables, tables, readAfter}
+use Rattle.sheet.specs.Table.{nodeRow, headRow, differenceRow, storeFrom, storeRows, nodePlace, operandPlace, differencePlace, noNodes, noDifferences, graphOf, differencesOf, headerOf, Answer, header, answerNumber, answerPlace, Tables, tables, readAfter}
 use Rattle.sheet.specs.Table as Table
 use Rattle.sheet.specs.Fill.{Filled, filled, gotOn, fillOn, repeatInto, operandInto, operandsInto, nodeInto, nodesInto, differenceInto, differencesInto, tablesInto, readInto}
 
@@ -75,18 +75,18 @@ module _ (s : List ℕ) where
   node-filled top own at g = go (readHead top s at)
     where
       tail : (h : Head) (next : ℕ) (x : Got (List ℕ)) (t : Filled) → times (h .count) (operand own) s next ≡ x
-          → Fills (λ us. storeRows (λ j. nodePlace own + 5 + j) (storeFrom g (nodePlace own) (headRow h)) 0 (map (λ u. u ∷ []) us)) x t
+          → Fills (λ us. storeRows (λ j. operandPlace own + j) (storeFrom g (nodePlace own) (headRow h)) 0 (map (λ u. u ∷ []) us)) x t
           → Fills (λ v. storeFrom g (nodePlace own) (nodeRow v)) (andThen x (λ us last. got (nodeOf h us) last)) t
       tail h next (got us last) t e went =
           subst (λ (l : List ℕ). Fills (λ v. storeFrom g (nodePlace own) (nodeRow v)) (got (nodeOf h us) last) (filled (got tt last) l))
-          (sym (singles (nodePlace own + 5) 0 (storeFrom g (nodePlace own) (headRow h)) us ∙ behind g (nodePlace own) h us (counted _ _ _ s next us last e)))
+          (sym (singles (operandPlace own) 0 (storeFrom g (nodePlace own) (headRow h)) us ∙ behind g (nodePlace own) h us (counted _ _ _ s next us last e)))
           went
       tail h next (refusal k p) t e stopped = stopped
 
       go : (x : Got Head) → Fills (λ v. storeFrom g (nodePlace own) (nodeRow v))
           (andThen x (λ h next. andThen (times (h .count) (operand own) s next) (λ us last. got (nodeOf h us) last)))
-          (fillOn x g (λ h next. operandsInto s own (nodePlace own + 5) (h .count) next (storeFrom g (nodePlace own) (headRow h))))
-      go (got h next) = tail h next _ _ refl (operands-filled own (nodePlace own + 5) (h .count) next (storeFrom g (nodePlace own) (headRow h)))
+          (fillOn x g (λ h next. operandsInto s own (operandPlace own) (h .count) next (storeFrom g (nodePlace own) (headRow h))))
+      go (got h next) = tail h next _ _ refl (operands-filled own (operandPlace own) (h .count) next (storeFrom g (nodePlace own) (headRow h)))
       go (refusal k p) = stopped
 
   nodes-filled : (top n at : ℕ) (g : List ℕ)

@@ -7,21 +7,22 @@ use native.Mathlib.Omega.{arith}
 use native.Mathlib.Nat.{add-zero}
 use lib.Dec.{eqb, ltb}
 use lib.ListN.{length, getD, List·getD-eq-default}
-use borrow.Author.Tests.{eqb-true, ltb-true, ltb-false}
+use borrow.Author.Tests.{eqb-true, ne-eqb, ltb-true, ltb-false}
 use Rattle.maps.specs.Lists.{All}
-use Rattle.maps.specs.Sheet.{Sheet, Kind, input, logic, box, isLogic, Node, noNode, node, size}
-use Rattle.maps.specs.Read.{rangesOf}
+use Rattle.maps.specs.Sheet.{Sheet, Kind, input, logic, box, isLogic, latencyOf, Node, noNode, node, size}
+use Rattle.maps.specs.Read.{kindOf}
+use Rattle.maps.specs.Limits.{operandsMost, rangesOf}
 use Rattle.maps.specs.WellFormed.{Within, codeOf, WellNode, WellFormed}
 use Rattle.maps.proofs.Member.{All-ids, All-get, everywhere}
 use Rattle.maps.proofs.Planned.{operands-below}
-use Rattle.sheet.specs.Table.{nodeStride, differenceStride, nodeRow, differenceRow, noDifference, graphOf, differencesOf, Tabled, Falling, Listed}
-use Rattle.sheet.proofs.Rows.{stored-length, stored-at, stored-past}
+use Rattle.sheet.specs.Table.{nodeStride, differenceStride, nodesWide, differencesWide, nodeRow, differenceRow, noDifference, graphOf, differencesOf, kindAt, Tabled, Falling, Listed}
+use Rattle.sheet.proofs.StoredRows.{stored-length, stored-at, stored-past}
 
--- no node has more than six operands
-few : (top own : ℕ) (v : Node) → WellNode top own v → length (v .operands) ≤ 6
+-- no node has more operands than the most
+few : (top own : ℕ) (v : Node) → WellNode top own v → length (v .operands) ≤ operandsMost
 few top own v h = go (v .kind) (h .count)
   where
-    go : (k : Kind) → Within (rangesOf top (codeOf k) .operands) (length (v .operands)) → length (v .operands) ≤ 6
+    go : (k : Kind) → Within (rangesOf top (codeOf k) .operands) (length (v .operands)) → length (v .operands) ≤ operandsMost
     go input w = omega (arith, w .most)
     go logic w = w .most
     go (box lat) w = w .most
@@ -30,7 +31,7 @@ module _ (S : Sheet) (well : WellFormed S) where
   short : All (λ v. length (nodeRow v) ≤ nodeStride) (S .nodes)
   short = All-ids (λ v. length (nodeRow v) ≤ nodeStride) noNode (S .nodes) (λ v l. omega (arith, few (S .top) v (node S v) (well .nodes v l)))
 
-  room : length (S .nodes) * nodeStride ≤ 3072
+  room : length (S .nodes) * nodeStride ≤ nodesWide
   room = omega (arith, well .size .most)
 
   blank : (j : ℕ) → getD (nodeRow noNode) j 0 ≡ 0
@@ -47,15 +48,15 @@ module _ (S : Sheet) (well : WellFormed S) where
   cell v j l = go (ltb v (size S)) refl
     where
       go : (b : Bool) → ltb v (size S) ≡ b → getD (graphOf S) (v * nodeStride + j) 0 ≡ getD (nodeRow (node S v)) j 0
-      go true e = stored-at nodeRow nodeStride 3072 (S .nodes) noNode short room v j (ltb-true _ _ e) l
+      go true e = stored-at nodeRow nodeStride nodesWide (S .nodes) noNode short room v j (ltb-true _ _ e) l
       go false e =
-          stored-past nodeRow nodeStride 3072 (S .nodes) noNode short room (v * nodeStride + j) (omega (arith, ltb-false))
+          stored-past nodeRow nodeStride nodesWide (S .nodes) noNode short room (v * nodeStride + j) (omega (arith, ltb-false))
           ∙ sym (ap (λ (x : Node). getD (nodeRow x) j 0) (List·getD-eq-default (S .nodes) noNode (ltb-false _ _ e)) ∙ blank j)
 
   pub tabled : Tabled S (graphOf S)
   tabled =
       record {
-        wide = unfold graphOf in stored-length nodeRow nodeStride 3072 (S .nodes) noNode short room;
+        wide = unfold graphOf in stored-length nodeRow nodeStride nodesWide (S .nodes) noNode short room;
         kinds = λ v l. rw (← add-zero (v * nodeStride)) (cell v 0 (omega arith));
         marks = λ v l. cell v 1 (omega arith);
         delays = λ v l. cell v 2 (omega arith);
@@ -67,19 +68,19 @@ module _ (S : Sheet) (well : WellFormed S) where
   differences-short : All (λ d. length (differenceRow d) ≤ differenceStride) (S .differences)
   differences-short = everywhere (λ d. omega arith) (S .differences)
 
-  differences-room : length (S .differences) * differenceStride ≤ 4096
+  differences-room : length (S .differences) * differenceStride ≤ differencesWide
   differences-room = omega (arith, well .count .most)
 
   -- the number j of difference i's row
   difference-cell : (i j : ℕ) → i < length (S .differences) → j < differenceStride
       → getD (differencesOf S) (i * differenceStride + j) 0 ≡ getD (differenceRow (getD (S .differences) i noDifference)) j 0
   unfolding differencesOf
-  difference-cell i j l m = stored-at differenceRow differenceStride 4096 (S .differences) noDifference differences-short differences-room i j l m
+  difference-cell i j l m = stored-at differenceRow differenceStride differencesWide (S .differences) noDifference differences-short differences-room i j l m
 
   pub listed : Listed S (differencesOf S)
   listed =
       record {
-        wide = unfold differencesOf in stored-length differenceRow differenceStride 4096 (S .differences) noDifference differences-short differences-room;
+        wide = unfold differencesOf in stored-length differenceRow differenceStride differencesWide (S .differences) noDifference differences-short differences-room;
         froms = λ i l. rw (← add-zero (i * differenceStride)) (difference-cell i 0 l (omega arith));
         tos = λ i l. difference-cell i 1 l (omega arith);
         pluses = λ i l. difference-cell i 2 l (omega arith);
@@ -96,10 +97,10 @@ falling S g well t =
           rw (t .operands v j l h) (All-get (λ u. u < v) 0 (node S v .operands) (operands-below S well v) j h);
     }
   where
-    counted : (v : ℕ) → length (node S v .operands) ≤ 6
+    counted : (v : ℕ) → length (node S v .operands) ≤ operandsMost
     counted v = go (ltb v (size S)) refl
       where
-        go : (b : Bool) → ltb v (size S) ≡ b → length (node S v .operands) ≤ 6
+        go : (b : Bool) → ltb v (size S) ≡ b → length (node S v .operands) ≤ operandsMost
         go true e = few (S .top) v (node S v) (well .nodes v (ltb-true _ _ e))
         go false e = omega (arith, ap (λ (x : Node). length (x .operands)) (List·getD-eq-default (S .nodes) noNode (ltb-false _ _ e)))
 
@@ -114,3 +115,19 @@ code-logic k e = sym (logic-code k) ∙ rw e
 
 pub logic-one : (k : Kind) → isLogic k ≡ true → codeOf k ≡ 1
 logic-one k e = eqb-true _ _ (logic-code k ∙ e)
+
+-- the kind of a node, from its code and its latency
+pub kind-back : (k : Kind) → kindOf (codeOf k) (latencyOf k) ≡ k
+kind-back input = refl
+kind-back logic = refl
+kind-back (box lat) = refl
+
+-- the kind in the table of a sheet is the node's
+pub kind-tabled : (S : Sheet) (g : List ℕ) → Tabled S g → (v : ℕ) → v < 256 → kindAt g v ≡ node S v .kind
+kind-tabled S g t v l = rw (t .kinds v l, t .latencies v l) (kind-back (node S v .kind))
+
+-- a code is 1 exactly if its kind is logic, and 2 or more exactly if it is a box
+pub code-is-logic : (code lat : ℕ) → isLogic (kindOf code lat) ≡ eqb code 1
+code-is-logic zero lat = refl
+code-is-logic (suc zero) lat = refl
+code-is-logic (suc (suc k)) lat = sym (ne-eqb (suc (suc k)) 1 (λ e. omega arith))

@@ -1,21 +1,21 @@
 -- What the code's answers mean in document 01's terms.
+use mathlib.Core.Path.{_≡_}
 use Rattle.maps.specs.Number.{Got, got}
 use Rattle.maps.specs.Sheet.{Difference}
 use Rattle.maps.specs.Read.{Head, Header}
 use Rattle.maps.specs.Code.{kindMeant, numberOf, placeOf}
 use Rattle.maps.specs.declared.Node as N
 use Rattle.maps.specs.declared.Refusal.{Refusal}
-use Rattle.maps.specs.declared.Refusal.the-variants.{Ended}
 use Rattle.number.specs.Code.{refusalMeant}
 use Rattle.number.specs.declared.Number.{Number}
-use Rattle.number.specs.declared.Number.the-variants.{Value, Refused}
+use Rattle.number.specs.declared.Number.the-variants.{Refused}
 use Rattle.sheet.specs.Table.{Answer, header}
 use Rattle.sheet.specs.Table as Table
 use Rattle.sheet.specs.declared.fill.Progress.{Progress}
 use Rattle.sheet.specs.declared.fill.Progress.the-variants as P
 use Rattle.sheet.specs.declared.node.HeadRead.{HeadRead}
 use Rattle.sheet.specs.declared.node.HeadRead.the-variants as H
-use Rattle.sheet.specs.declared.node.Difference as W
+use Rattle.sheet.specs.declared.rows.Difference as W
 use Rattle.sheet.specs.declared.node.DifferenceRead.{DifferenceRead}
 use Rattle.sheet.specs.declared.node.DifferenceRead.the-variants as D
 use Rattle.sheet.specs.declared.reader.Header as R
@@ -24,10 +24,9 @@ use Rattle.sheet.specs.declared.reader.HeaderRead.the-variants as O
 use Rattle.sheet.specs.declared.reader.Reading.{Reading}
 use Rattle.sheet.specs.declared.reader.Reading.the-variants as A
 
--- the refusal of a number that was not read
-abbrev pub refusalIn : Number → Refusal
-refusalIn (Value v next) = Ended 0
-refusalIn (Refused w) = w
+-- a number that was not read
+abbrev pub NotRead : Number → Type 0
+NotRead read = (why : Refusal) × (read ≡ Refused why)
 
 abbrev pub headMeant : N.Node → Head
 headMeant v = record { kind = kindMeant (v .kind); output = v .output; delay = v .delay .0; count = v .operands }
@@ -47,30 +46,12 @@ abbrev pub progressMeant : Progress → Got (Unit {0})
 progressMeant (P.Next next) = got tt (next .at)
 progressMeant (P.Refused w) = refusalMeant w
 
--- the refusal of a head or a difference that was not read
-abbrev pub headRefusal : HeadRead → Progress
-headRefusal (H.Head v next) = P.Refused (Ended 0)
-headRefusal (H.Refused w) = P.Refused w
-
-abbrev pub differenceRefusal : DifferenceRead → Progress
-differenceRefusal (D.Value d next) = P.Refused (Ended 0)
-differenceRefusal (D.Refused w) = P.Refused w
-
 abbrev pub headerMeant : R.Header → Header
 headerMeant h = record { leaves = h .leaves; top = h .top; horizon = h .horizon; nodes = h .nodes; differences = h .differences }
 
 abbrev pub headerRead : HeaderRead → Got Header
 headerRead (O.Header h next) = got (headerMeant h) (next .at)
 headerRead (O.Refused w) = refusalMeant w
-
--- the refusal of a header, a node or a difference that was not read
-abbrev pub headerRefusal : HeaderRead → Reading
-headerRefusal (O.Header h next) = A.Refused (Ended 0)
-headerRefusal (O.Refused w) = A.Refused w
-
-abbrev pub progressRefusal : Progress → Reading
-progressRefusal (P.Next next) = A.Refused (Ended 0)
-progressRefusal (P.Refused w) = A.Refused w
 
 -- what reading a sheet answers
 abbrev pub answerMeant : Reading → Answer

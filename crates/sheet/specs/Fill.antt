@@ -5,8 +5,8 @@ use mathlib.Core.List.{List, [], _∷_}
 use lib.Dec.{ltb}
 use lib.ListN.{length}
 use Rattle.maps.specs.Number.{Got, got, refusal}
-use Rattle.maps.specs.Read.{operand, readHead, readDifference, readHeader}
-use Rattle.sheet.specs.Table.{storeFrom, headRow, differenceRow, nodePlace, differencePlace, noNodes, noDifferences, header, Tables, tables}
+use Rattle.maps.specs.Read.{Header, operand, readHead, readDifference, readHeader}
+use Rattle.sheet.specs.Table.{storeFrom, headRow, differenceRow, nodePlace, operandPlace, differencePlace, noNodes, noDifferences, header, Tables, tables}
 use Rattle.sheet.specs.Table as Table
 
 pub record Filled : Type 0 where
@@ -44,7 +44,7 @@ module _ (s : List ℕ) where
   unfoldable pub nodeInto : (top own at : ℕ) → List ℕ → Filled
   unfolding gotOn storeFrom
   nodeInto top own at g =
-      fillOn (readHead top s at) g (λ h next. operandsInto own (nodePlace own + 5) (h .count) next (storeFrom g (nodePlace own) (headRow h)))
+      fillOn (readHead top s at) g (λ h next. operandsInto own (operandPlace own) (h .count) next (storeFrom g (nodePlace own) (headRow h)))
 
   abbrev pub nodesInto : (top n at : ℕ) → List ℕ → Filled
   nodesInto top n at g = repeatInto (nodeInto top) n 0 at g
@@ -58,16 +58,19 @@ module _ (s : List ℕ) where
   abbrev pub differencesInto : (n m at : ℕ) → List ℕ → Filled
   differencesInto n m at g = repeatInto (differenceInto n) m 0 at g
 
-  -- a whole sheet into two tables
-  unfoldable pub tablesInto : (graph differences : List ℕ) → Tables
-  unfolding gotOn
-  tablesInto g d =
-      gotOn (readHeader s 0) (λ k p. tables (Table.refusal k p) g d) (λ h at.
+  -- the nodes and the differences of a sheet into two tables, and nothing after them
+  abbrev pub rowsInto : Header → (at : ℕ) → (graph differences : List ℕ) → Tables
+  rowsInto h at g d =
       let ns = nodesInto (h .top) (h .nodes) at g in
       gotOn (ns .end) (λ k p. tables (Table.refusal k p) (ns .table) d) (λ u next.
       let ds = differencesInto (h .nodes) (h .differences) next d in
       gotOn (ds .end) (λ k p. tables (Table.refusal k p) (ns .table) (ds .table)) (λ w last.
-      tables (cond (ltb last (length s)) (Table.refusal 5 last) (header h)) (ns .table) (ds .table))))
+      tables (cond (ltb last (length s)) (Table.refusal 5 last) (header h)) (ns .table) (ds .table)))
+
+  -- a whole sheet into two tables
+  unfoldable pub tablesInto : (graph differences : List ℕ) → Tables
+  unfolding gotOn
+  tablesInto g d = gotOn (readHeader s 0) (λ k p. tables (Table.refusal k p) g d) (λ h at. rowsInto h at g d)
 
   -- the same into tables without a row
   abbrev pub readInto : Tables

@@ -1,31 +1,27 @@
 // A node's numbers before its operand ids, and the numbers of a difference, read at a cursor.
 ghost use mathlib.Core.Path.{_≡_};
-ghost use Prim.Native.Nat.{_≤_, _<_, min};
-ghost use Rattle.maps.specs.Read.{kindOf, readHead, readDifference, ahead, back};
-ghost use Rattle.maps.specs.Code.{kindMeant};
-ghost use Rattle.sheet.specs.Code.{refusalIn, headRead, differenceRead};
-use maps::Kind;
+ghost use Prim.Native.Nat.{_≤_, _<_};
+ghost use Rattle.maps.specs.Limits.{topRange, sizeRange};
+ghost use Rattle.maps.specs.Read.{readHead, readDifference, ahead, back};
+ghost use Rattle.sheet.specs.Code.{NotRead, headRead, differenceRead};
+ghost use Rattle.number.specs.declared.Number.the-variants as Number;
+use crate::rows::Difference;
+use crate::rows::kind_of;
 use maps::Level;
 use maps::Node;
 use maps::Refusal;
-use maps::Step;
 use number::Cursor;
+use number::Field;
 use number::Number;
-use number::field;
+use number::field_at;
+use number::field_in;
+use number::range_of;
 use number::ranges_of;
 
 // What reading a node's head gives.
 pub enum HeadRead {
     Head(Node, Cursor),
     Refused(Refusal),
-}
-
-// A difference (u, v, w): w is plus - minus.
-pub struct Difference {
-    pub from: u32,
-    pub to: u32,
-    pub plus: u32,
-    pub minus: u32,
 }
 
 // What reading a difference gives.
@@ -36,7 +32,8 @@ pub enum DifferenceRead {
 
 // The refusal of a number that was not read.
 pub fn refusal_of(read: Number) -> Refusal
-    ensures { λ r. ⌜ r ≡ refusalIn read ⌝ }
+    requires { ⌜ NotRead read ⌝ }
+    ensures { λ r. ⌜ read ≡ Number.Refused r ⌝ }
 {
     match read {
         Number::Refused(why) => why,
@@ -44,32 +41,12 @@ pub fn refusal_of(read: Number) -> Refusal
     }
 }
 
-pub fn lesser(a: u32, b: u32) -> u32
-    ensures { λ r. ⌜ r ≡ min a b ⌝ }
-{
-    if a < b { a } else { b }
-}
-
-pub fn kind_of(code: u32, latency: u32) -> Kind
-    ensures { λ r. ⌜ kindMeant r ≡ kindOf code latency ⌝ }
-{
-    if code == 0 {
-        return Kind::Input;
-    }
-    if code == 1 {
-        return Kind::Logic;
-    }
-    Kind::Box {
-        latency: Step(latency),
-    }
-}
-
 // The numbers of a node before its operand ids, where a step has the levels up to top.
 pub fn head_at(sheet: &[u8], c: Cursor, top: u32) -> HeadRead
-    requires { ⌜ top ≤ 64 ⌝ }
+    requires { ⌜ top ≤ topRange .high ⌝ }
     ensures { λ r. ⌜ headRead r ≡ readHead top (now (sheet .entry)) (c .at) ⌝ }
 {
-    let kind_read = field(sheet, c, 0, 2);
+    let kind_read = field_at(sheet, c, Field::Kind);
     let Number::Value {
         value: code,
         next: c1,
@@ -77,7 +54,7 @@ pub fn head_at(sheet: &[u8], c: Cursor, top: u32) -> HeadRead
     else {
         return HeadRead::Refused(refusal_of(kind_read));
     };
-    let mark_read = field(sheet, c1, 0, 1);
+    let mark_read = field_at(sheet, c1, Field::Mark);
     let Number::Value {
         value: mark,
         next: c2,
@@ -87,7 +64,7 @@ pub fn head_at(sheet: &[u8], c: Cursor, top: u32) -> HeadRead
     };
     let all = ranges_of(code);
     let delays = all.delay;
-    let delay_read = field(sheet, c2, delays.low, lesser(top, delays.high));
+    let delay_read = field_in(sheet, c2, delays.up_to(top));
     let Number::Value {
         value: delay,
         next: c3,
@@ -96,7 +73,7 @@ pub fn head_at(sheet: &[u8], c: Cursor, top: u32) -> HeadRead
         return HeadRead::Refused(refusal_of(delay_read));
     };
     let latencies = all.latency;
-    let latency_read = field(sheet, c3, latencies.low, latencies.high);
+    let latency_read = field_in(sheet, c3, latencies);
     let Number::Value {
         value: latency,
         next: c4,
@@ -105,7 +82,7 @@ pub fn head_at(sheet: &[u8], c: Cursor, top: u32) -> HeadRead
         return HeadRead::Refused(refusal_of(latency_read));
     };
     let counts = all.operands;
-    let count_read = field(sheet, c4, counts.low, counts.high);
+    let count_read = field_in(sheet, c4, counts);
     let Number::Value {
         value: operands,
         next: c5,
@@ -141,10 +118,11 @@ pub fn back_of(code: u32) -> u32
 
 // The numbers of a difference among n nodes.
 pub fn difference_at(sheet: &[u8], c: Cursor, n: u32) -> DifferenceRead
-    requires { ⌜ 0 < n ⌝ }
+    requires { ⌜ (0 < n) × (n ≤ sizeRange .high) ⌝ }
     ensures { λ r. ⌜ differenceRead r ≡ readDifference n (now (sheet .entry)) (c .at) ⌝ }
 {
-    let from_read = field(sheet, c, 0, n - 1);
+    let ids = range_of(Field::Id).up_to(n - 1);
+    let from_read = field_in(sheet, c, ids);
     let Number::Value {
         value: from,
         next: c1,
@@ -152,7 +130,7 @@ pub fn difference_at(sheet: &[u8], c: Cursor, n: u32) -> DifferenceRead
     else {
         return DifferenceRead::Refused(refusal_of(from_read));
     };
-    let to_read = field(sheet, c1, 0, n - 1);
+    let to_read = field_in(sheet, c1, ids);
     let Number::Value {
         value: to,
         next: c2,
@@ -160,7 +138,7 @@ pub fn difference_at(sheet: &[u8], c: Cursor, n: u32) -> DifferenceRead
     else {
         return DifferenceRead::Refused(refusal_of(to_read));
     };
-    let code_read = field(sheet, c2, 0, 8190);
+    let code_read = field_at(sheet, c2, Field::Weight);
     let Number::Value {
         value: code,
         next: c3,

@@ -1,18 +1,22 @@
 // Reads a whole sheet: the header, the nodes, the differences, and nothing after them.
 ghost use mathlib.Core.Path.{_≡_};
 ghost use Rattle.maps.specs.Read.{readHeader};
-ghost use Rattle.sheet.specs.Code.{headerRead, headerRefusal, progressRefusal, answerMeant};
+ghost use Prim.Native.Nat.{_≤_, _<_};
+ghost use Rattle.maps.specs.Limits.{topRange, sizeRange, countRange};
+ghost use Rattle.sheet.specs.Code.{headerMeant, headerRead, answerMeant};
 ghost use Rattle.sheet.specs.Table.{tables};
-ghost use Rattle.sheet.specs.Fill.{tablesInto, readInto};
+ghost use Rattle.sheet.specs.Fill.{rowsInto, tablesInto};
 use crate::fill::Progress;
 use crate::fill::read_differences;
 use crate::fill::read_nodes;
 use crate::node::refusal_of;
+use crate::rows::Differences;
+use crate::rows::Graph;
 use maps::Refusal;
 use number::Cursor;
+use number::Field;
 use number::Number;
-use number::field;
-use number::header_range;
+use number::field_at;
 
 // K, T, H, n, m.
 pub struct Header {
@@ -35,32 +39,11 @@ pub enum Reading {
     Refused(Refusal),
 }
 
-// The refusal of a header that was not read.
-pub fn refused_header(read: HeaderRead) -> Reading
-    ensures { λ r. ⌜ r ≡ headerRefusal read ⌝ }
-{
-    match read {
-        HeaderRead::Refused(why) => Reading::Refused(why),
-        HeaderRead::Header(_, _) => Reading::Refused(Refusal::Ended(0)),
-    }
-}
-
-// The refusal that stopped reading into a table.
-pub fn refused_progress(read: Progress) -> Reading
-    ensures { λ r. ⌜ r ≡ progressRefusal read ⌝ }
-{
-    match read {
-        Progress::Refused(why) => Reading::Refused(why),
-        Progress::Next(_) => Reading::Refused(Refusal::Ended(0)),
-    }
-}
-
 // The five numbers at the head of a sheet.
 pub fn header_at(sheet: &[u8]) -> HeaderRead
     ensures { λ r. ⌜ headerRead r ≡ readHeader (now (sheet .entry)) 0 ⌝ }
 {
-    let span1 = header_range(0);
-    let read1 = field(sheet, Cursor { at: 0 }, span1.low, span1.high);
+    let read1 = field_at(sheet, Cursor { at: 0 }, Field::Leaves);
     let Number::Value {
         value: leaves,
         next: c1,
@@ -68,8 +51,7 @@ pub fn header_at(sheet: &[u8]) -> HeaderRead
     else {
         return HeaderRead::Refused(refusal_of(read1));
     };
-    let span2 = header_range(1);
-    let read2 = field(sheet, c1, span2.low, span2.high);
+    let read2 = field_at(sheet, c1, Field::Top);
     let Number::Value {
         value: top,
         next: c2,
@@ -77,8 +59,7 @@ pub fn header_at(sheet: &[u8]) -> HeaderRead
     else {
         return HeaderRead::Refused(refusal_of(read2));
     };
-    let span3 = header_range(2);
-    let read3 = field(sheet, c2, span3.low, span3.high);
+    let read3 = field_at(sheet, c2, Field::Horizon);
     let Number::Value {
         value: horizon,
         next: c3,
@@ -86,8 +67,7 @@ pub fn header_at(sheet: &[u8]) -> HeaderRead
     else {
         return HeaderRead::Refused(refusal_of(read3));
     };
-    let span4 = header_range(3);
-    let read4 = field(sheet, c3, span4.low, span4.high);
+    let read4 = field_at(sheet, c3, Field::Nodes);
     let Number::Value {
         value: nodes,
         next: c4,
@@ -95,8 +75,7 @@ pub fn header_at(sheet: &[u8]) -> HeaderRead
     else {
         return HeaderRead::Refused(refusal_of(read4));
     };
-    let span5 = header_range(4);
-    let read5 = field(sheet, c4, span5.low, span5.high);
+    let read5 = field_at(sheet, c4, Field::Differences);
     let Number::Value {
         value: differences,
         next: c5,
@@ -116,33 +95,43 @@ pub fn header_at(sheet: &[u8]) -> HeaderRead
     )
 }
 
-// Reads a sheet into two tables; a refusal leaves there what was read before it.
-pub fn fill_tables(sheet: &[u8], graph: &mut [u32; 3072], differences: &mut [u32; 4096]) -> Reading
+// Reads the nodes and the differences of a sheet into the two tables, and nothing after them.
+pub fn fill_rows(
+    sheet: &[u8],
+    c: Cursor,
+    header: Header,
+    graph: &mut Graph,
+    differences: &mut Differences,
+) -> Reading
+    requires { ⌜ (header .top ≤ topRange .high) × (0 < header .nodes) × (header .nodes ≤ sizeRange .high) × (header .differences ≤ countRange .high) ⌝ }
+    ensures { λ r. ⌜ tables (answerMeant r) (now (graph .exit)) (now (differences .exit)) ≡ rowsInto (now (sheet .entry)) (headerMeant header) (c .at) (now (graph .entry)) (now (differences .entry)) ⌝ }
+{
+    let nodes = read_nodes(sheet, c, header.top, header.nodes, graph);
+    match nodes {
+        Progress::Refused(why) => Reading::Refused(why),
+        Progress::Next(next) => {
+            let rest = read_differences(sheet, next, header.nodes, header.differences, differences);
+            match rest {
+                Progress::Refused(late) => Reading::Refused(late),
+                Progress::Next(end) => {
+                    if end.at < sheet.len() {
+                        return Reading::Refused(Refusal::Trailing(end.at));
+                    }
+                    Reading::Sheet(header)
+                }
+            }
+        }
+    }
+}
+
+// Reads a sheet: its header, and its nodes and differences into two tables, where all other numbers stay. A refusal leaves there what was read
+// before it.
+pub fn read_sheet(sheet: &[u8], graph: &mut Graph, differences: &mut Differences) -> Reading
     ensures { λ r. ⌜ tables (answerMeant r) (now (graph .exit)) (now (differences .exit)) ≡ tablesInto (now (sheet .entry)) (now (graph .entry)) (now (differences .entry)) ⌝ }
 {
     let first = header_at(sheet);
-    let HeaderRead::Header(header, c) = first else {
-        return refused_header(first);
-    };
-    let nodes = read_nodes(sheet, c, header.top, header.nodes, graph);
-    let Progress::Next(c1) = nodes else {
-        return refused_progress(nodes);
-    };
-    let rest = read_differences(sheet, c1, header.nodes, header.differences, differences);
-    let Progress::Next(c2) = rest else {
-        return refused_progress(rest);
-    };
-    if c2.at < sheet.len() {
-        return Reading::Refused(Refusal::Trailing(c2.at));
+    match first {
+        HeaderRead::Refused(why) => Reading::Refused(why),
+        HeaderRead::Header(header, c) => fill_rows(sheet, c, header, graph, differences),
     }
-    Reading::Sheet(header)
-}
-
-// Reads a sheet: its header, and its nodes and differences in the two tables, which are cleared first. A refusal leaves there what was read before it.
-pub fn read_sheet(sheet: &[u8], graph: &mut [u32; 3072], differences: &mut [u32; 4096]) -> Reading
-    ensures { λ r. ⌜ tables (answerMeant r) (now (graph .exit)) (now (differences .exit)) ≡ readInto (now (sheet .entry)) ⌝ }
-{
-    *graph = [0; 3072];
-    *differences = [0; 4096];
-    fill_tables(sheet, graph, differences)
 }

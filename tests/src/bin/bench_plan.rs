@@ -1,5 +1,5 @@
 //! Times the planning call on sheets of 16 to 256 nodes of several kinds and, where a file is named, on the sheet in it. With the feature
-//! `sketch`, the unproved sketch stands beside it.
+//! `before` another version of the library stands beside it, with `sketch` the unproved sketch.
 #![cfg_attr(not(planner), allow(dead_code, unused_mut))]
 use maps_tests::made::{numbers, spelled};
 use maps_tests::random::Random;
@@ -17,12 +17,22 @@ extern "C" {
     fn sketch_plan(sheet: *const u8, sheet_len: usize, plan: *mut u8, plan_len: usize) -> u64;
 }
 
-/// The library where it is built, and the sketch where it is wanted.
+#[cfg(feature = "before")]
+extern "C" {
+    fn before_plan(sheet: *const u8, sheet_len: usize, plan: *mut u8, plan_len: usize) -> maps_tests::library::PlanAnswer;
+}
+
+/// The library where it is built, and the version before and the sketch where they are wanted.
 fn calls() -> Vec<Call> {
     let mut all: Vec<Call> = Vec::new();
     #[cfg(planner)]
     all.push(("library", |sheet, buffer| {
         let answer = maps_tests::library::plan(sheet, buffer);
+        (answer.number, answer.place)
+    }));
+    #[cfg(feature = "before")]
+    all.push(("before", |sheet, buffer| {
+        let answer = unsafe { before_plan(sheet.as_ptr(), sheet.len(), buffer.as_mut_ptr(), buffer.len()) };
         (answer.number, answer.place)
     }));
     #[cfg(feature = "sketch")]
@@ -142,23 +152,26 @@ fn running(random: &mut Random, n: u32) -> Sheet {
 }
 
 /// How often each call plans a sheet.
-const RUNS: u32 = 9;
+const RUNS: u32 = 12;
 
-/// For each call the least time of its runs, in microseconds, and the number given. The calls take turns, so that all meet the same machine.
+/// For each call the least time of its runs, in microseconds, and the number given. The calls take turns, so that all meet the same machine, and
+/// each goes first as often, so that none always comes after the same other.
 fn times(calls: &[Call], bytes: &[u8]) -> Vec<(f64, u64)> {
     let mut buffer = vec![0; 5000];
     let mut best = vec![(f64::INFINITY, 0); calls.len()];
-    for _ in 0..RUNS {
-        for (call, least) in calls.iter().zip(&mut best) {
+    for run in 0..RUNS as usize {
+        for turn in 0..calls.len() {
+            let i = if run % 2 == 0 { (run + turn) % calls.len() } else { (run + calls.len() - turn) % calls.len() };
             let start = Instant::now();
-            least.1 = (call.1)(std::hint::black_box(bytes), std::hint::black_box(&mut buffer)).0;
-            least.0 = least.0.min(start.elapsed().as_secs_f64() * 1e6);
+            best[i].1 = (calls[i].1)(std::hint::black_box(bytes), std::hint::black_box(&mut buffer)).0;
+            best[i].0 = best[i].0.min(start.elapsed().as_secs_f64() * 1e6);
         }
     }
     best
 }
 
-/// One line: how many sheets are accepted, refused 6 and refused 7, then mean and worst of each call, and the ratio of the means to the last call's.
+/// One line: how many sheets are accepted, refused 6 and refused 7, then mean and worst of each call, and the ratio of the library's mean to each
+/// other call's.
 fn row(name: &str, sheets: &[Vec<u8>]) {
     let calls = calls();
     let all: Vec<Vec<(f64, u64)>> = sheets.iter().map(|bytes| times(&calls, bytes)).collect();
@@ -169,7 +182,10 @@ fn row(name: &str, sheets: &[Vec<u8>]) {
         let worst = all.iter().fold(0.0, |most, t| f64::max(most, t[i].0));
         print!("{:>13} {:>9.1} {worst:>9.1} us", call.0, mean(i));
     }
-    println!("{:>8.2}", mean(0) / mean(calls.len() - 1));
+    for i in 1..calls.len() {
+        print!("{:>8.2}", mean(0) / mean(i));
+    }
+    println!();
 }
 
 fn main() {

@@ -2,9 +2,11 @@
 use borrow.Author.Needs.{needs}
 use native.Mathlib.Omega.{arith}
 use Prim.Native.Nat.{ℕ, _+_, _*_, _-_, _<_}
-use mathlib.Core.Path.{refl, _∙_}
+use mathlib.Core.Path.{sym, subst, _∙_}
 use lib.ListN.{set, length-set}
 use lib.Seq.{getD-set-same}
+use Rattle.sheet.specs.Table.{countIn}
+use Rattle.cone.specs.Part.{Met}
 use Rattle.cone.proofs.Growth.{in-part, member-still, grown-none, grown-leaf, grown-member, grown-operands}
 use borrow.Fn.Kinds.{In}
 use borrow.Fn.PlainCycle.{Measures, is, falls, and}
@@ -14,6 +16,8 @@ use Rattle.cone.proofs.+visit+visit_operands.Lts-visit as visit-lts
 use Rattle.cone.proofs.visit_operands.Reads as visit-operands
 use Rattle.cone.proofs.visit_operands.Kinds as visit-operands-kinds
 use Rattle.cone.proofs.+visit+visit_operands.Lts-visit_operands as visit-operands-lts
+use Rattle.sheet.proofs.count_in.Reads as count-in-reads
+use Rattle.sheet.proofs.operand_in.Reads as operand-in-reads
 use Rattle.cone.proofs.+visit+visit_operands.{statement}
 use Rattle.cone.proofs.+visit+visit_operands.Tie.{close}
 
@@ -95,26 +99,50 @@ visit-returns-3 t c =
       λ z. omega (arith, member-still (set p u 1) p′ (g .kept) u (getD-set-same p u 1 0 (in-part lent))),
     )
 
-visit-operands-returns : (t : ℕ) → visit-operands-lts.Need-returns (
+visit-operands-count-in-requires : (t : ℕ) → visit-operands-lts.Need-count-in-requires (
+  count-in-reads.Asked,
+  count-in-reads.Learnt,
+  operand-in-reads.Asked,
+  operand-in-reads.Learnt,
   visit-below t,
   visit.Post,
   visit-operands-below t,
   visit-operands.Post,
 ) (visit-operands-at t) visit-operands.Post
-visit-operands-returns t c = (grown-none _ _ _, λ i l h. absurd (omega (arith, c .if1 .taken)))
+visit-operands-count-in-requires t c κs = c .pre .1 .0 .node
 
-visit-operands-element-copy-out-y : (t : ℕ) → visit-operands-lts.Need-element-copy-out-y (
+visit-operands-returns : (t : ℕ) → visit-operands-lts.Need-returns (
+  count-in-reads.Asked,
+  count-in-reads.Learnt,
+  operand-in-reads.Asked,
+  operand-in-reads.Learnt,
   visit-below t,
   visit.Post,
   visit-operands-below t,
   visit-operands.Post,
 ) (visit-operands-at t) visit-operands.Post
-visit-operands-element-copy-out-y t c =
+visit-operands-returns t c = (grown-none _ _ _, λ i l h. absurd (omega (arith, c .if1 .taken, c .before .count-in .ensures)))
+
+visit-operands-operand-in-requires : (t : ℕ) → visit-operands-lts.Need-operand-in-requires (
+  count-in-reads.Asked,
+  count-in-reads.Learnt,
+  operand-in-reads.Asked,
+  operand-in-reads.Learnt,
+  visit-below t,
+  visit.Post,
+  visit-operands-below t,
+  visit-operands.Post,
+) (visit-operands-at t) visit-operands.Post
+visit-operands-operand-in-requires t c κs =
     let s = c .before .before in
     let lent = s .pre .1 .0 in
-    omega (arith, lent .falling .few (s .args .u) (lent .node))
+    (lent .node, omega (arith, lent .falling .few (s .args .u) (lent .node), c .before .count-in .ensures, c .if1 .left))
 
 visit-operands-visit-requires : (t : ℕ) → visit-operands-lts.Need-visit-requires (
+  count-in-reads.Asked,
+  count-in-reads.Learnt,
+  operand-in-reads.Asked,
+  operand-in-reads.Learnt,
   visit-below t,
   visit.Post,
   visit-operands-below t,
@@ -125,17 +153,22 @@ visit-operands-visit-requires t c κs =
     let u = s .args .u in
     let j = s .args .j in
     let lent = s .pre .1 .0 in
-    let here = c .before .before .if1 .left in
+    let here : j < countIn (s .args .graph .now) u = omega (arith, c .before .before .if1 .left, c .before .before .before .count-in .ensures) in
     let few = lent .falling .few u (lent .node) in
-    let fall = lent .falling .falls u j (lent .node) here in (
+    let fall = lent .falling .falls u j (lent .node) here in
+    let y = c .before .operand-in .ensures in (
       omega arith,
       (
         record { falling = lent .falling; node = omega arith; wide = lent .wide },
-        record { reader = u; place = j; member = s .pre .1 .1; within = here; operand = refl },
+        record { reader = u; place = j; member = s .pre .1 .1; within = here; operand = sym y },
       ),
     )
 
 visit-operands-add-visit-operands : (t : ℕ) → visit-operands-lts.Need-add-visit-operands (
+  count-in-reads.Asked,
+  count-in-reads.Learnt,
+  operand-in-reads.Asked,
+  operand-in-reads.Learnt,
   visit-below t,
   visit.Post,
   visit-operands-below t,
@@ -144,9 +177,13 @@ visit-operands-add-visit-operands : (t : ℕ) → visit-operands-lts.Need-add-vi
 visit-operands-add-visit-operands t c =
     let s = c .before .before .before .before .before .before in
     let lent = s .pre .1 .0 in
-    omega (arith, lent .falling .few (s .args .u) (lent .node))
+    omega (arith, lent .falling .few (s .args .u) (lent .node), c .before .before .before .before .before .count-in .ensures)
 
 visit-operands-visit-operands-requires : (t : ℕ) → visit-operands-lts.Need-visit-operands-requires (
+  count-in-reads.Asked,
+  count-in-reads.Learnt,
+  operand-in-reads.Asked,
+  operand-in-reads.Learnt,
   visit-below t,
   visit.Post,
   visit-operands-below t,
@@ -158,7 +195,7 @@ visit-operands-visit-operands-requires t c κs =
     let lent = s .pre .1 .0 in
     let e = c .before .visit in
     let g = e .ensures .0 in (
-      omega (arith, lent .falling .few u (lent .node)),
+      omega (arith, lent .falling .few u (lent .node), c .before .before .before .before .before .count-in .ensures),
       (
         record { falling = lent .falling; node = lent .node; wide = g .wide ∙ lent .wide },
         member-still (s .args .part .now) (e .last .1 .1 .0) (g .kept) u (s .pre .1 .1),
@@ -166,6 +203,10 @@ visit-operands-visit-operands-requires t c κs =
     )
 
 visit-operands-returns-2 : (t : ℕ) → visit-operands-lts.Need-returns-2 (
+  count-in-reads.Asked,
+  count-in-reads.Learnt,
+  operand-in-reads.Asked,
+  operand-in-reads.Learnt,
   visit-below t,
   visit.Post,
   visit-operands-below t,
@@ -173,10 +214,11 @@ visit-operands-returns-2 : (t : ℕ) → visit-operands-lts.Need-returns-2 (
 ) (visit-operands-at t) visit-operands.Post
 visit-operands-returns-2 t c =
     let s = c .before .before .before .before .before .before .before in
+    let graph = s .args .graph .now in
     let e = c .before .before .visit in
     let f = c .visit-operands in
-    grown-operands (s .args .graph .now) (s .args .marks .now) (s .args .part .now) (e .last .1 .1 .0) (f .last .1 .1 .0) (s .args .u) (s .args .j)
-    (e .ensures .0) (e .ensures .1) (f .ensures .0) (f .ensures .1)
+    grown-operands graph (s .args .marks .now) (s .args .part .now) (e .last .1 .1 .0) (f .last .1 .1 .0) (s .args .u) (s .args .j)
+    (e .ensures .0) (subst (λ (y : ℕ). Met (e .last .1 .1 .0) y) (c .before .before .before .before .operand-in .ensures) (e .ensures .1)) (f .ensures .0) (f .ensures .1)
 
 pub +visit+visit-operands-spec : {M : Type 1} → statement M
 +visit+visit-operands-spec = close μ-visit μ-visit-operands (λ t. visit-lts.spec (
@@ -193,19 +235,21 @@ pub +visit+visit-operands-spec : {M : Type 1} → statement M
     (λ c. search needs)
     (visit-visit-operands-requires t)
     (visit-returns-3 t))
-    λ t. visit-operands-lts.spec
-    (visit-below t, visit.Post, visit-operands-below t, visit-operands.Post)
+    λ t. visit-operands-lts.spec (
+      count-in-reads.Asked,
+      count-in-reads.Learnt,
+      operand-in-reads.Asked,
+      operand-in-reads.Learnt,
+      visit-below t,
+      visit.Post,
+      visit-operands-below t,
+      visit-operands.Post,
+    )
     (visit-operands-at t)
     visit-operands.Post
-    (λ c. search needs)
-    (λ c. search needs)
-    (λ c. search needs)
-    (λ c. search needs)
+    (visit-operands-count-in-requires t)
     (visit-operands-returns t)
-    (λ c. search needs)
-    (λ c. search needs)
-    (λ c. search needs)
-    (visit-operands-element-copy-out-y t)
+    (visit-operands-operand-in-requires t)
     (visit-operands-visit-requires t)
     (visit-operands-add-visit-operands t)
     (visit-operands-visit-operands-requires t)

@@ -6,7 +6,8 @@ use mathlib.Core.Path.{refl, sym, subst, _∙_}
 use mathlib.Core.Logic.{inl, inr}
 use mathlib.Core.List.{List}
 use lib.ListN.{length, length-set}
-use Rattle.cut.specs.Search.{at, Flow, zeros}
+use Rattle.sheet.specs.Table.{countIn}
+use Rattle.cut.specs.Search.{cell, Flow, Link, Entered, zeros}
 use Rattle.cut.proofs.Laws as Laws
 use borrow.Fn.Kinds.{In}
 use borrow.Fn.PlainCycle.{Measures, is, falls, and}
@@ -19,6 +20,8 @@ use Rattle.cut.proofs.+enter+expand+scan.Lts-expand as expand-lts
 use Rattle.cut.proofs.scan.Reads as scan
 use Rattle.cut.proofs.scan.Kinds as scan-kinds
 use Rattle.cut.proofs.+enter+expand+scan.Lts-scan as scan-lts
+use Rattle.sheet.proofs.count_in.Reads as count-in-reads
+use Rattle.sheet.proofs.operand_in.Reads as operand-in-reads
 use Rattle.cut.proofs.+enter+expand+scan.{statement}
 use Rattle.cut.proofs.+enter+expand+scan.Tie.{close}
 
@@ -56,18 +59,18 @@ enter-returns t c =
     let code = s .args .code .now in
     let seen = s .args .seen .now in
     let above = s .args .above .now in
-    let ready = s .pre .1 .0 in
-    Laws.enter-late graph code seen above (s .args .x) (s .args .from) (ready .flow) (s .pre .1 .1) (c .if1 .taken)
+    let start = s .pre .1 .0 in
+    Laws.enter-late graph code seen above (s .args .x) (s .args .from) (start .flow) (s .pre .1 .1) (c .if1 .taken)
 
 enter-expand-requires : (t : ℕ) → enter-lts.Need-expand-requires (expand-below t, expand.Post) (enter-at t) enter.Post
 enter-expand-requires t c κs =
     let s = c .before .before .before .before .before in
     let graph = s .args .graph .now in
     let code = s .args .code .now in
-    let ready = s .pre .1 .0 in
+    let start = s .pre .1 .0 in
     let m = s .pre .0 in
     let z = c .before .before .if2 .taken in
-    (omega arith, (ready, (Laws.under-link graph code (s .args .from) (s .args .x) z (s .pre .1 .1), inr z)))
+    (omega arith, (start, (Laws.under-link graph code (s .args .from) (s .args .x) z (s .pre .1 .1), inr z)))
 
 enter-returns-2 : (t : ℕ) → enter-lts.Need-returns-2 (expand-below t, expand.Post) (enter-at t) enter.Post
 enter-returns-2 t c =
@@ -92,15 +95,15 @@ enter-expand-requires-2 t c κs =
     let code = s .args .code .now in
     let seen = s .args .seen .now in
     let above = s .args .above .now in
-    let ready = s .pre .1 .0 in
-    let in-s : s .args .x + 256 < length seen = (let l = ready .marks in let n = ready .node in omega arith) in
+    let start = s .pre .1 .0 in
+    let in-s : s .args .x + 256 < length seen = (let l = start .marks in let n = start .node in omega arith) in
     let m = s .pre .0 in
     let z = Laws.zeros-mark seen (s .args .x + 256) in-s (c .before .before .before .if3 .left) in
-    let q = ready .flow .low (s .args .x) (ready .node) in (
+    let q = start .flow .low (s .args .x) (start .node) in (
       omega arith,
       (
-        record { falling = ready .falling; marks = length-set seen (s .args .x + 256) 1 ∙ ready .marks; flow = ready .flow; node = q; source = q; below = omega arith },
-        (Laws.under-self graph code (at above (s .args .x)), inl refl),
+        record { falling = start .falling; marks = length-set seen (s .args .x + 256) 1 ∙ start .marks; flow = start .flow; node = q; source = q; below = omega arith },
+        (Laws.under-self graph code (cell above (s .args .x)), inl refl),
       ),
     )
 
@@ -111,11 +114,11 @@ enter-returns-4 t c =
     let code = s .args .code .now in
     let seen = s .args .seen .now in
     let above = s .args .above .now in
-    let ready = s .pre .1 .0 in
-    let in-s : s .args .x + 256 < length seen = (let l = ready .marks in let n = ready .node in omega arith) in
+    let start = s .pre .1 .0 in
+    let in-s : s .args .x + 256 < length seen = (let l = start .marks in let n = start .node in omega arith) in
     let e = c .before .expand2 in
-    Laws.enter-push graph code seen (e .last .1 .1 .0) above (e .last .1 .1 .1 .0) (s .args .x) (s .args .from) (ready .node) in-s (c .before .before .before .before .before .if3 .left) (c .before .before .before .before .before .before .before .if2 .left) (c .before .before .before .before .before .before .before .before .if1 .left)
-    (ready .source) (ready .below) (s .pre .1 .1) (Laws.succeeded _ _ (e .result) (c .if4 .taken) (e .ensures))
+    Laws.enter-push graph code seen (e .last .1 .1 .0) above (e .last .1 .1 .1 .0) (s .args .x) (s .args .from) (start .node) in-s (c .before .before .before .before .before .if3 .left) (c .before .before .before .before .before .before .before .if2 .left) (c .before .before .before .before .before .before .before .before .if1 .left)
+    (start .source) (start .below) (s .pre .1 .1) (Laws.succeeded _ _ (e .result) (c .if4 .taken) (e .ensures))
 
 enter-returns-5 : (t : ℕ) → enter-lts.Need-returns-5 (expand-below t, expand.Post) (enter-at t) enter.Post
 enter-returns-5 t c =
@@ -124,11 +127,11 @@ enter-returns-5 t c =
     let code = s .args .code .now in
     let seen = s .args .seen .now in
     let above = s .args .above .now in
-    let ready = s .pre .1 .0 in
-    let in-s : s .args .x + 256 < length seen = (let l = ready .marks in let n = ready .node in omega arith) in
+    let start = s .pre .1 .0 in
+    let in-s : s .args .x + 256 < length seen = (let l = start .marks in let n = start .node in omega arith) in
     let e = c .before .expand2 in
     let f = Laws.failed _ _ (e .result) (c .if4 .left) (e .ensures) in
-    Laws.enter-block graph code seen (e .last .1 .1 .0) above (e .last .1 .1 .1 .0) (s .args .x) (s .args .from) (ready .node) in-s (c .before .before .before .before .before .if3 .left) (c .before .before .before .before .before .before .before .if2 .left) (c .before .before .before .before .before .before .before .before .if1 .left) (f .0) (f .1)
+    Laws.enter-block graph code seen (e .last .1 .1 .0) above (e .last .1 .1 .1 .0) (s .args .x) (s .args .from) (start .node) in-s (c .before .before .before .before .before .if3 .left) (c .before .before .before .before .before .before .before .if2 .left) (c .before .before .before .before .before .before .before .before .if1 .left) (f .0) (f .1)
 
 expand-returns : (t : ℕ) → expand-lts.Need-returns (scan-below t, scan.Post, enter-below t, enter.Post) (expand-at t) expand.Post
 expand-returns t c =
@@ -137,8 +140,8 @@ expand-returns t c =
     let code = s .args .code .now in
     let seen = s .args .seen .now in
     let above = s .args .above .now in
-    let ready = s .pre .1 .0 in
-    Laws.expand-leaf graph code seen above (s .args .p) (s .args .from) (ready .flow) (s .pre .1 .1 .1) (c .if1 .taken)
+    let start = s .pre .1 .0 in
+    Laws.expand-leaf graph code seen above (s .args .p) (s .args .from) (start .flow) (s .pre .1 .1 .1) (c .if1 .taken)
 
 expand-returns-2 : (t : ℕ) → expand-lts.Need-returns-2 (scan-below t, scan.Post, enter-below t, enter.Post) (expand-at t) expand.Post
 expand-returns-2 t c =
@@ -153,13 +156,13 @@ expand-scan-requires : (t : ℕ) → expand-lts.Need-scan-requires (scan-below t
 expand-scan-requires t c κs =
     let s = c .before .before .before .before .before .before in
     let seen = s .args .seen .now in
-    let ready = s .pre .1 .0 in
-    let in-s : s .args .p < length seen = (let l = ready .marks in let n = ready .node in omega arith) in
+    let start = s .pre .1 .0 in
+    let in-s : s .args .p < length seen = (let l = start .marks in let n = start .node in omega arith) in
     let m = s .pre .0 in
     let z = Laws.zeros-mark seen (s .args .p) in-s (c .before .before .if2 .left) in (
       omega arith,
       (
-        record { falling = ready .falling; marks = length-set seen (s .args .p) 1 ∙ ready .marks; flow = ready .flow; node = ready .node; source = ready .source; below = ready .below },
+        record { falling = start .falling; marks = length-set seen (s .args .p) 1 ∙ start .marks; flow = start .flow; node = start .node; source = start .source; below = start .below },
         s .pre .1 .1 .0,
       ),
     )
@@ -171,8 +174,8 @@ expand-returns-3 t c =
     let code = s .args .code .now in
     let seen = s .args .seen .now in
     let above = s .args .above .now in
-    let ready = s .pre .1 .0 in
-    let in-s : s .args .p < length seen = (let l = ready .marks in let n = ready .node in omega arith) in
+    let start = s .pre .1 .0 in
+    let in-s : s .args .p < length seen = (let l = start .marks in let n = start .node in omega arith) in
     let e = c .before .scan in
     Laws.push-mark graph code seen (e .last .1 .1 .0) above (e .last .1 .1 .1 .0) (s .args .p) in-s (s .args .from) (Laws.succeeded _ _ (e .result) (c .if3 .taken) (e .ensures))
 
@@ -183,11 +186,11 @@ expand-returns-4 t c =
     let code = s .args .code .now in
     let seen = s .args .seen .now in
     let above = s .args .above .now in
-    let ready = s .pre .1 .0 in
-    let in-s : s .args .p < length seen = (let l = ready .marks in let n = ready .node in omega arith) in
+    let start = s .pre .1 .0 in
+    let in-s : s .args .p < length seen = (let l = start .marks in let n = start .node in omega arith) in
     let e = c .before .before .before .scan in
     let f = Laws.failed _ _ (e .result) (c .before .before .if3 .left) (e .ensures) in
-    Laws.expand-stuck graph code seen (e .last .1 .1 .0) above (e .last .1 .1 .1 .0) (s .args .p) (ready .node) in-s (c .before .before .before .before .before .before .if2 .left) (c .before .before .before .before .before .before .before .before .if1 .left) (f .0) (f .1) (c .if4 .taken)
+    Laws.expand-stuck graph code seen (e .last .1 .1 .0) above (e .last .1 .1 .1 .0) (s .args .p) (start .node) in-s (c .before .before .before .before .before .before .if2 .left) (c .before .before .before .before .before .before .before .before .if1 .left) (f .0) (f .1) (c .if4 .taken)
 
 expand-enter-requires : (t : ℕ) → expand-lts.Need-enter-requires (scan-below t, scan.Post, enter-below t, enter.Post) (expand-at t) expand.Post
 expand-enter-requires t c κs =
@@ -195,8 +198,8 @@ expand-enter-requires t c κs =
     let graph = s .args .graph .now in
     let code = s .args .code .now in
     let seen = s .args .seen .now in
-    let ready = s .pre .1 .0 in
-    let in-s : s .args .p < length seen = (let l = ready .marks in let n = ready .node in omega arith) in
+    let start = s .pre .1 .0 in
+    let in-s : s .args .p < length seen = (let l = start .marks in let n = start .node in omega arith) in
     let m = s .pre .0 in
     let z = Laws.zeros-mark seen (s .args .p) in-s (c .before .before .before .before .before .before .before .before .if2 .left) in
     let e = c .before .before .before .before .before .scan in
@@ -204,7 +207,7 @@ expand-enter-requires t c κs =
     let w = f .0 .fewer in (
       omega arith,
       (
-        record { falling = ready .falling; marks = f .0 .long ∙ length-set seen (s .args .p) 1 ∙ ready .marks; flow = subst (λ (l : List ℕ). Flow graph code l) (sym (f .0 .same)) (ready .flow); node = ready .node; source = ready .node; below = omega arith },
+        record { falling = start .falling; marks = f .0 .long ∙ length-set seen (s .args .p) 1 ∙ start .marks; flow = subst (λ (l : List ℕ). Flow graph code l) (sym (f .0 .same)) (start .flow); node = start .node; source = start .node; below = omega arith },
         Laws.link-under graph code (s .args .p) (s .args .p) (Laws.under-self graph code (s .args .p)),
       ),
     )
@@ -216,82 +219,156 @@ expand-returns-5 t c =
     let code = s .args .code .now in
     let seen = s .args .seen .now in
     let above = s .args .above .now in
-    let ready = s .pre .1 .0 in
-    let in-s : s .args .p < length seen = (let l = ready .marks in let n = ready .node in omega arith) in
+    let start = s .pre .1 .0 in
+    let in-s : s .args .p < length seen = (let l = start .marks in let n = start .node in omega arith) in
     let e = c .before .before .before .before .before .before .scan in
     let f = Laws.failed _ _ (e .result) (c .before .before .before .before .before .if3 .left) (e .ensures) in
     let g = c .enter in
-    Laws.expand-back graph code seen (e .last .1 .1 .0) above (e .last .1 .1 .1 .0) (s .args .p) (ready .node) in-s (c .before .before .before .before .before .before .before .before .before .if2 .left) (c .before .before .before .before .before .before .before .before .before .before .before .if1 .left) (f .0) (f .1)
-    (g .last .1 .1 .0) (g .last .1 .1 .1 .0) (s .args .from) (g .result) (ready .flow) (s .pre .1 .1 .1) (c .before .before .before .if4 .left) (g .ensures)
+    Laws.expand-back graph code seen (e .last .1 .1 .0) above (e .last .1 .1 .1 .0) (s .args .p) (start .node) in-s (c .before .before .before .before .before .before .before .before .before .if2 .left) (c .before .before .before .before .before .before .before .before .before .before .before .if1 .left) (f .0) (f .1)
+    (g .last .1 .1 .0) (g .last .1 .1 .1 .0) (s .args .from) (g .result) (start .flow) (s .pre .1 .1 .1) (c .before .before .before .if4 .left) (g .ensures)
 
-scan-returns : (t : ℕ) → scan-lts.Need-returns (enter-below t, enter.Post, scan-below t, scan.Post) (scan-at t) scan.Post
+scan-count-in-requires : (t : ℕ) → scan-lts.Need-count-in-requires (
+  count-in-reads.Asked,
+  count-in-reads.Learnt,
+  operand-in-reads.Asked,
+  operand-in-reads.Learnt,
+  enter-below t,
+  enter.Post,
+  scan-below t,
+  scan.Post,
+) (scan-at t) scan.Post
+scan-count-in-requires t c κs = c .pre .1 .0 .node
+
+scan-returns : (t : ℕ) → scan-lts.Need-returns (
+  count-in-reads.Asked,
+  count-in-reads.Learnt,
+  operand-in-reads.Asked,
+  operand-in-reads.Learnt,
+  enter-below t,
+  enter.Post,
+  scan-below t,
+  scan.Post,
+) (scan-at t) scan.Post
 scan-returns t c =
     let s = c .before .before in
     let graph = s .args .graph .now in
     let code = s .args .code .now in
     let seen = s .args .seen .now in
     let above = s .args .above .now in
-    let ready = s .pre .1 .0 in
-    (Laws.block-none graph code seen above, λ i le lt. let g = c .if1 .taken in absurd (omega arith))
+    let start = s .pre .1 .0 in
+    (Laws.block-none graph code seen above, λ i le lt. absurd (omega (arith, c .if1 .taken, c .before .count-in .ensures)))
 
-scan-element-copy-out-y : (t : ℕ) → scan-lts.Need-element-copy-out-y (enter-below t, enter.Post, scan-below t, scan.Post) (scan-at t) scan.Post
-scan-element-copy-out-y t c =
+scan-operand-in-requires : (t : ℕ) → scan-lts.Need-operand-in-requires (
+  count-in-reads.Asked,
+  count-in-reads.Learnt,
+  operand-in-reads.Asked,
+  operand-in-reads.Learnt,
+  enter-below t,
+  enter.Post,
+  scan-below t,
+  scan.Post,
+) (scan-at t) scan.Post
+scan-operand-in-requires t c κs =
     let s = c .before .before in
-    let ready = s .pre .1 .0 in
-    let few = ready .falling .few (s .args .p) (ready .node) in
-    let n = ready .node in
-    omega arith
+    let start = s .pre .1 .0 in
+    (start .node, omega (arith, start .falling .few (s .args .p) (start .node), c .before .count-in .ensures, c .if1 .left))
 
-scan-enter-requires : (t : ℕ) → scan-lts.Need-enter-requires (enter-below t, enter.Post, scan-below t, scan.Post) (scan-at t) scan.Post
+scan-enter-requires : (t : ℕ) → scan-lts.Need-enter-requires (
+  count-in-reads.Asked,
+  count-in-reads.Learnt,
+  operand-in-reads.Asked,
+  operand-in-reads.Learnt,
+  enter-below t,
+  enter.Post,
+  scan-below t,
+  scan.Post,
+) (scan-at t) scan.Post
 scan-enter-requires t c κs =
     let s = c .before .before .before .before .before in
     let graph = s .args .graph .now in
     let code = s .args .code .now in
-    let ready = s .pre .1 .0 in
-    let few = ready .falling .few (s .args .p) (ready .node) in
+    let start = s .pre .1 .0 in
+    let few = start .falling .few (s .args .p) (start .node) in
     let m = s .pre .0 in
-    let j = c .before .before .before .if1 .left in
-    let y = ready .falling .falls (s .args .p) (s .args .j) (ready .node) j in
-    let n = ready .node in
-    let l = ready .below in (
+    let here : s .args .j < countIn graph (s .args .p) = omega (arith, c .before .before .before .if1 .left, c .before .before .before .before .count-in .ensures) in
+    let fall = start .falling .falls (s .args .p) (s .args .j) (start .node) here in
+    let y = c .before .before .operand-in .ensures in
+    let n = start .node in
+    let l = start .below in (
       omega arith,
       (
-        record { falling = ready .falling; marks = ready .marks; flow = ready .flow; node = omega arith; source = ready .source; below = omega arith },
-        Laws.link-operand graph code (s .args .from) (s .args .p) (s .args .j) (s .pre .1 .1) j,
+        record { falling = start .falling; marks = start .marks; flow = start .flow; node = omega arith; source = start .source; below = omega arith },
+        subst (λ (x : ℕ). Link graph code (s .args .from) x) (sym y) (Laws.link-operand graph code (s .args .from) (s .args .p) (s .args .j) (s .pre .1 .1) here),
       ),
     )
 
-scan-returns-2 : (t : ℕ) → scan-lts.Need-returns-2 (enter-below t, enter.Post, scan-below t, scan.Post) (scan-at t) scan.Post
+scan-returns-2 : (t : ℕ) → scan-lts.Need-returns-2 (
+  count-in-reads.Asked,
+  count-in-reads.Learnt,
+  operand-in-reads.Asked,
+  operand-in-reads.Learnt,
+  enter-below t,
+  enter.Post,
+  scan-below t,
+  scan.Post,
+) (scan-at t) scan.Post
 scan-returns-2 t c = let e = c .before .enter in Laws.succeeded _ _ (e .result) (c .if2 .taken) (e .ensures)
 
-scan-add-scan : (t : ℕ) → scan-lts.Need-add-scan (enter-below t, enter.Post, scan-below t, scan.Post) (scan-at t) scan.Post
+scan-add-scan : (t : ℕ) → scan-lts.Need-add-scan (
+  count-in-reads.Asked,
+  count-in-reads.Learnt,
+  operand-in-reads.Asked,
+  operand-in-reads.Learnt,
+  enter-below t,
+  enter.Post,
+  scan-below t,
+  scan.Post,
+) (scan-at t) scan.Post
 scan-add-scan t c =
     let s = c .before .before .before .before .before .before .before .before .before in
-    let ready = s .pre .1 .0 in
-    let few = ready .falling .few (s .args .p) (ready .node) in
-    let j = c .before .before .before .before .before .before .before .if1 .left in
-    omega arith
+    let start = s .pre .1 .0 in
+    let few = start .falling .few (s .args .p) (start .node) in
+    omega (arith, c .before .before .before .before .before .before .before .if1 .left, c .before .before .before .before .before .before .before .before .count-in .ensures)
 
-scan-scan-requires : (t : ℕ) → scan-lts.Need-scan-requires (enter-below t, enter.Post, scan-below t, scan.Post) (scan-at t) scan.Post
+scan-scan-requires : (t : ℕ) → scan-lts.Need-scan-requires (
+  count-in-reads.Asked,
+  count-in-reads.Learnt,
+  operand-in-reads.Asked,
+  operand-in-reads.Learnt,
+  enter-below t,
+  enter.Post,
+  scan-below t,
+  scan.Post,
+) (scan-at t) scan.Post
 scan-scan-requires t c κs =
     let s = c .before .before .before .before .before .before .before .before .before in
     let graph = s .args .graph .now in
     let code = s .args .code .now in
-    let ready = s .pre .1 .0 in
-    let few = ready .falling .few (s .args .p) (ready .node) in
+    let start = s .pre .1 .0 in
+    let few = start .falling .few (s .args .p) (start .node) in
     let m = s .pre .0 in
     let j = c .before .before .before .before .before .before .before .if1 .left in
+    let n = c .before .before .before .before .before .before .before .before .count-in .ensures in
     let e = c .before .before .before .enter in
     let f = Laws.failed _ _ (e .result) (c .before .before .if2 .left) (e .ensures) in
     let w = f .0 .fewer in (
       omega arith,
       (
-        record { falling = ready .falling; marks = f .0 .long ∙ ready .marks; flow = subst (λ (l : List ℕ). Flow graph code l) (sym (f .0 .same)) (ready .flow); node = ready .node; source = ready .source; below = ready .below },
+        record { falling = start .falling; marks = f .0 .long ∙ start .marks; flow = subst (λ (l : List ℕ). Flow graph code l) (sym (f .0 .same)) (start .flow); node = start .node; source = start .source; below = start .below },
         s .pre .1 .1,
       ),
     )
 
-scan-returns-3 : (t : ℕ) → scan-lts.Need-returns-3 (enter-below t, enter.Post, scan-below t, scan.Post) (scan-at t) scan.Post
+scan-returns-3 : (t : ℕ) → scan-lts.Need-returns-3 (
+  count-in-reads.Asked,
+  count-in-reads.Learnt,
+  operand-in-reads.Asked,
+  operand-in-reads.Learnt,
+  enter-below t,
+  enter.Post,
+  scan-below t,
+  scan.Post,
+) (scan-at t) scan.Post
 scan-returns-3 t c =
     let s = c .before .before .before .before .before .before .before .before .before .before in
     let graph = s .args .graph .now in
@@ -301,7 +378,8 @@ scan-returns-3 t c =
     let e = c .before .before .before .before .enter in
     let f = Laws.failed _ _ (e .result) (c .before .before .before .if2 .left) (e .ensures) in
     let g = c .scan in
-    Laws.scan-more graph code seen (e .last .1 .1 .0) (g .last .1 .1 .0) above (e .last .1 .1 .1 .0) (g .last .1 .1 .1 .0) (s .args .p) (s .args .j) (s .args .from) (g .result) (f .0) (f .1) (g .ensures)
+    Laws.scan-more graph code seen (e .last .1 .1 .0) (g .last .1 .1 .0) above (e .last .1 .1 .1 .0) (g .last .1 .1 .1 .0) (s .args .p) (s .args .j) (s .args .from) (g .result) (f .0)
+    (subst (λ (x : ℕ). Entered code (e .last .1 .1 .0) x) (c .before .before .before .before .before .before .before .operand-in .ensures) (f .1)) (g .ensures)
 
 pub +enter+expand+scan-spec : {M : Type 1} → statement M
 +enter+expand+scan-spec =
@@ -335,16 +413,19 @@ pub +enter+expand+scan-spec : {M : Type 1} → statement M
     (expand-returns-4 t)
     (expand-enter-requires t)
     (expand-returns-5 t))
-    (λ t. scan-lts.spec (enter-below t, enter.Post, scan-below t, scan.Post) (scan-at t) scan.Post
-    (λ c. search needs)
-    (λ c. search needs)
-    (λ c. search needs)
-    (λ c. search needs)
+    (λ t. scan-lts.spec (
+      count-in-reads.Asked,
+      count-in-reads.Learnt,
+      operand-in-reads.Asked,
+      operand-in-reads.Learnt,
+      enter-below t,
+      enter.Post,
+      scan-below t,
+      scan.Post,
+    ) (scan-at t) scan.Post
+    (scan-count-in-requires t)
     (scan-returns t)
-    (λ c. search needs)
-    (λ c. search needs)
-    (λ c. search needs)
-    (scan-element-copy-out-y t)
+    (scan-operand-in-requires t)
     (scan-enter-requires t)
     (scan-returns-2 t)
     (scan-add-scan t)

@@ -20,7 +20,8 @@ returns c = λ S may asked.
 deepen-requires : tie.Need-deepen-requires
 deepen-requires c κs =
     let s = c .before .before .before .before .before .before .before .before in
-    (s .pre .0, (c .before .before .before .before .before .augment .ensures .value .flow, s .pre .1 .0))
+    let v = s .pre .1 .0 in
+    (s .pre .0, (c .before .before .before .before .before .augment .ensures .value .flow, omega arith))
 
 collect-requires : tie.Need-collect-requires
 collect-requires c κs =

@@ -5,13 +5,13 @@ use native.Mathlib.Decide.{decLt}
 use Prim.Native.Nat.{ℕ, _-_, _≤_, _<_}
 use mathlib.Core.Path.{_≡_, _∙_}
 use lib.ListN.{length, length-set, List·getD-eq-default}
-use Rattle.cut.specs.Search.{at}
+use Rattle.cut.specs.Search.{cell}
 use Rattle.cut.proofs.Listing.{filled-more}
 use Rattle.cut.proofs.clear.Statement.{statement}
 use Rattle.cut.proofs.clear.Tie as tie
 
 abbrev Inv-loop : tie.InvT-loop
-Inv-loop s₀ i₀ s i = (length s ≡ length s₀) × (i ≤ length s₀) × ((j : ℕ) → j < i → at s j ≡ 0)
+Inv-loop s₀ i₀ s i = (length s ≡ length s₀) × (i ≤ length s₀) × ((j : ℕ) → j < i → cell s j ≡ 0)
 
 abbrev μ-loop : tie.MeasureT-loop
 μ-loop s₀ i₀ s i = length s - i
@@ -29,7 +29,7 @@ returns c i =
     let l = c .before .loop in
     go (decLt i (length (l .s)))
   where
-    go : Dec (i < length (c .before .loop .s)) → at (c .before .loop .s) i ≡ 0
+    go : Dec (i < length (c .before .loop .s)) → cell (c .before .loop .s) i ≡ 0
     go (yes lt) = let t = c .loop-test .left in c .before .loop .inv .2 i (omega arith)
     go (no f) = List·getD-eq-default (c .before .loop .s) 0 (omega arith)
 

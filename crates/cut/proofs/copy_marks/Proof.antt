@@ -4,13 +4,13 @@ use native.Mathlib.Omega.{arith}
 use Prim.Native.Nat.{ℕ, _-_, _<_}
 use mathlib.Core.Path.{_≡_, _∙_}
 use lib.ListN.{length, length-set}
-use Rattle.cut.specs.Search.{at}
+use Rattle.cut.specs.Search.{cell}
 use Rattle.cut.proofs.Listing.{filled-more, copied}
 use Rattle.cut.proofs.copy_marks.Statement.{statement}
 use Rattle.cut.proofs.copy_marks.Tie as tie
 
 abbrev Inv-loop : tie.InvT-loop
-Inv-loop a b₀ i₀ b i = (length b ≡ length a) × ((j : ℕ) → j < i → at b j ≡ at a j)
+Inv-loop a b₀ i₀ b i = (length b ≡ length a) × ((j : ℕ) → j < i → cell b j ≡ cell a j)
 
 abbrev μ-loop : tie.MeasureT-loop
 μ-loop a b₀ i₀ b i = length a - i
@@ -27,7 +27,7 @@ loop-again c =
     let a = c .before .before .before .args .a .now in
     let q = l .inv .0 in
     let t = c .before .loop-test .taken in
-    (length-set (l .b) (l .i) (at a (l .i)) ∙ l .inv .0, filled-more (at a) (l .b) (l .i) (omega arith) (l .inv .1))
+    (length-set (l .b) (l .i) (cell a (l .i)) ∙ l .inv .0, filled-more (cell a) (l .b) (l .i) (omega arith) (l .inv .1))
 
 returns : tie.Need-returns Inv-loop μ-loop
 returns c = let l = c .before .loop in let t = c .loop-test .left in copied (c .before .before .args .a .now) (l .b) (l .i) (l .inv .0) (omega arith) (l .inv .1)

@@ -4,13 +4,13 @@ use native.Mathlib.Omega.{arith}
 use Prim.Native.Nat.{ℕ, _-_, _≤_, _<_}
 use mathlib.Core.Path.{_≡_, _∙_}
 use lib.ListN.{length, length-set}
-use Rattle.cut.specs.Search.{at}
+use Rattle.cut.specs.Search.{cell}
 use Rattle.cut.proofs.Listing.{filled-more}
 use Rattle.cut.proofs.start.Statement.{statement}
 use Rattle.cut.proofs.start.Tie as tie
 
 abbrev Inv-loop : tie.InvT-loop
-Inv-loop a₀ i₀ a i = (length a ≡ length a₀) × (i ≤ 256) × ((j : ℕ) → j < i → at a j ≡ j)
+Inv-loop a₀ i₀ a i = (length a ≡ length a₀) × (i ≤ 256) × ((j : ℕ) → j < i → cell a j ≡ j)
 
 abbrev μ-loop : tie.MeasureT-loop
 μ-loop a₀ i₀ a i = 256 - i

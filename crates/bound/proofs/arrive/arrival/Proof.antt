@@ -9,18 +9,17 @@ returns : tie.Need-returns
 returns c =
     let s = c .before .before .before .before in
     let a = s .args in
-    arrival-is (a .graph .now) (a .steps .now) (a .levels .now) (a .top) (a .delay) (a .u) (labelOf (c .before .before .before .label-of .result)) (labelOf (c .before .ready .result)) (labelOf (c .plus .result))
-    (c .before .before .before .label-of .ensures) (c .before .ready .ensures) (c .plus .ensures) (s .pre .1)
+    let own = c .before .before .before .label-of in
+    let ready = c .before .ready in
+    arrival-is (a .graph .now) (a .steps .now) (a .levels .now) (a .top .0) (a .delay .0) (a .u) (c .before .before .latency-in .result .0) (labelOf (own .result)) (labelOf (ready .result)) (labelOf (c .plus .result))
+    (own .ensures) (c .before .before .latency-in .ensures) (ready .ensures) (c .plus .ensures) (s .pre .1)
 
 pub arrival-spec : {M : Type 1} → statement M
 arrival-spec =
     tie.close
     (tie.spec
     (λ c κs. search needs)
-    (λ c. search needs)
-    (λ c. search needs)
-    (λ c. search needs)
-    (λ c. search needs)
+    (λ c κs. search needs)
     (λ c κs. search needs)
     (λ c κs. search needs)
     returns)

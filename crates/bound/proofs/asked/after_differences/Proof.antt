@@ -27,12 +27,12 @@ into d e m v n i q t w = go (ltb i (e - 1)) (ltb i e) refl refl
     go false false p r = inl (ltb-false _ _ r, w .1, w .2)
 
 abbrev Inv-loop : tie.InvT-loop
-Inv-loop differences first next steps m v s most₀ e₀ most e =
+Inv-loop differences first next steps m v most₀ e₀ most e =
     (e ≤ m) × ((j : ℕ) → e ≡ j + 1 → toIn differences j ≡ v)
-    × Greatest s (λ i. (e ≤ i) × (i < m) × (toIn differences i ≡ v)) (λ i. getD steps (fromIn differences i) 0 + plusIn differences i - minusIn differences i) most
+    × Greatest (most₀ .0) (λ i. (e ≤ i) × (i < m) × (toIn differences i ≡ v)) (λ i. getD steps (fromIn differences i) 0 + plusIn differences i - minusIn differences i) (most .0)
 
 abbrev μ-loop : tie.MeasureT-loop
-μ-loop differences first next steps m v s most₀ e₀ most e = e
+μ-loop differences first next steps m v most₀ e₀ most e = e
 
 loop-holds : tie.Need-loop-holds Inv-loop μ-loop
 loop-holds c =
@@ -43,7 +43,7 @@ loop-holds c =
     let le = last-le d (a .m) (a .v) in (
       omega arith,
       λ j e. last-hit d (a .m) (a .v) j (sym h ∙ e),
-      greatest-none (a .s) (λ i. getD (a .steps .now) (fromIn d i) 0 + plusIn d i - minusIn d i) (λ i. (getD (a .first .now) (a .v) 0 ≤ i) × (i < a .m) × (toIn d i ≡ a .v))
+      greatest-none (a .s .0) (λ i. getD (a .steps .now) (fromIn d i) 0 + plusIn d i - minusIn d i) (λ i. (getD (a .first .now) (a .v) 0 ≤ i) × (i < a .m) × (toIn d i ≡ a .v))
           (λ i p. last-none d (a .m) (a .v) i (omega (arith, p .0)) (p .1) (p .2)),
     )
 
@@ -83,8 +83,8 @@ loop-again c =
     let p = c .before .pushed in (
       omega arith,
       λ j e. last-hit d (l .e - 1) (a .v) j (sym q ∙ e),
-      greatest-more (a .s) (λ i. getD (a .steps .now) (fromIn d i) 0 + plusIn d i - minusIn d i) (λ i. (l .e ≤ i) × (i < a .m) × (toIn d i ≡ a .v)) (λ i. (n ≤ i) × (i < a .m) × (toIn d i ≡ a .v))
-          (l .most) (l .e - 1) (p .result) (l .inv .2)
+      greatest-more (a .s .0) (λ i. getD (a .steps .now) (fromIn d i) 0 + plusIn d i - minusIn d i) (λ i. (l .e ≤ i) × (i < a .m) × (toIn d i ≡ a .v)) (λ i. (n ≤ i) × (i < a .m) × (toIn d i ≡ a .v))
+          (l .most .0) (l .e - 1) (p .result .0) (l .inv .2)
           (λ i w. into d (l .e) (a .m) (a .v) n i q t w)
           (λ i w. (omega (arith, w .0), w .1, w .2)) (omega arith, omega arith, hit) (p .ensures),
     )
@@ -96,7 +96,7 @@ returns c =
     let d = a .differences .now in
     let l = c .before .loop in
     let t = c .loop-test .left in
-    greatest-same (a .s) (λ i. getD (a .steps .now) (fromIn d i) 0 + plusIn d i - minusIn d i) (λ i. (l .e ≤ i) × (i < a .m) × (toIn d i ≡ a .v)) (λ i. (i < a .m) × (toIn d i ≡ a .v)) (l .most) (l .inv .2)
+    greatest-same (a .s .0) (λ i. getD (a .steps .now) (fromIn d i) 0 + plusIn d i - minusIn d i) (λ i. (l .e ≤ i) × (i < a .m) × (toIn d i ≡ a .v)) (λ i. (i < a .m) × (toIn d i ≡ a .v)) (l .most .0) (l .inv .2)
     (λ i w. (omega arith, w .0, w .1)) (λ i w. (w .1, w .2))
 
 pub after-differences-spec : {M : Type 1} → statement M

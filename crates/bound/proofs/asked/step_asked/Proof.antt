@@ -1,66 +1,42 @@
 -- `asked::step_asked` meets its contract: what the tables ask is what the sheet asks.
+use Prim.Native.Nat.{ℕ, _<_}
+use mathlib.Core.Path.{subst}
 use native.Mathlib.Omega.{arith}
-use Rattle.bound.proofs.Safety.{graph-falls, soon-all, summed-all}
+use Rattle.sheet.specs.Table.{countIn}
+use Rattle.bound.specs.Bound.{Greatest, readyStep}
+use Rattle.bound.proofs.Safety.{graph-falls, node-in, few-differences, soon-all, summed-all}
 use Rattle.bound.proofs.Bounds.{asks-tables, asks-small}
 use borrow.Author.Needs.{needs}
 use Rattle.bound.proofs.asked.step_asked.Statement.{statement}
 use Rattle.bound.proofs.asked.step_asked.Tie as tie
 
-element-copy-out-own : tie.Need-element-copy-out-own
-element-copy-out-own c =
-    let s = c in
-    let a = s .args in
-    let going = s .pre .3 in
-    let n = going .given .well .size .most in
-    let l = s .pre .4 in
-    let e = going .given .nodes in
-    omega arith
-
 after-operands-requires : tie.Need-after-operands-requires
 after-operands-requires c κs =
-    let s = c .before in
-    let a = s .args in
-    let S = s .pre .0 in
-    let going = s .pre .3 in
-    let n = going .given .well .size .most in
-    let l = s .pre .4 in
-    let e = going .given .nodes in (
-      omega arith,
-      (
-        graph-falls (going .given),
-        λ u h. soon-all (going .given) (going .timed) u (omega arith),
-      ),
-    )
+    let b = c .before .pre .2 in
+    let l = b .node in
+    (node-in (b .given) _ l .1, (graph-falls (b .given), λ u h. soon-all (b .given) (b .timed) u (omega arith)))
 
 after-differences-requires : tie.Need-after-differences-requires
 after-differences-requires c κs =
-    let s = c .before .before in
-    let a = s .args in
-    let S = s .pre .0 in
-    let going = s .pre .3 in
-    let n = going .given .well .size .most in
-    let l = s .pre .4 in
-    let e = going .given .nodes in
-    let m = going .given .well .count .most in
-    let k = going .given .count in
-    ((omega arith, omega arith), (going .linked, summed-all (going .given) (going .timed)))
+    let b = c .before .before .pre .2 in
+    ((node-in (b .given) _ (b .node) .1, few-differences (b .given)), (b .linked, summed-all (b .given) (b .timed)))
 
 returns : tie.Need-returns
-returns c = λ S kept levels going l.
+returns c = λ S levels b.
     let a = c .before .before .before .args in
-    let e = going .given .nodes in
+    let l = node-in (b .given) (a .v) (b .node) .0 in
     let o = c .before .after-operands in
-    let d = c .after-differences in (
-      asks-tables S (a .graph .now) (a .differences .now) (a .limits) (going .given) (a .steps .now) levels (going .timed) (a .v) (omega arith) (o .result) (d .result) (o .ensures) (d .ensures),
-      asks-small S (a .graph .now) (a .differences .now) (a .limits) (going .given) (a .steps .now) levels (going .timed) (a .v) (omega arith) (o .result) (d .result) (o .ensures) (d .ensures),
+    let d = c .after-differences in
+    let ops = subst (λ (n : ℕ). Greatest n (λ j. j < countIn (a .graph .now) (a .v)) (readyStep (a .graph .now) (a .steps .now) (a .v)) (o .result .0)) (c .before .before .step-of .ensures) (o .ensures) in (
+      asks-tables S (a .graph .now) (a .differences .now) (a .limits) (b .given) (a .steps .now) levels (b .timed) (a .v) l (o .result .0) (d .result .0) ops (d .ensures),
+      asks-small S (a .graph .now) (a .differences .now) (a .limits) (b .given) (a .steps .now) levels (b .timed) (a .v) l (o .result .0) (d .result .0) ops (d .ensures),
     )
 
 pub step-asked-spec : {M : Type 1} → statement M
 step-asked-spec =
     tie.close
     (tie.spec
-    (λ c. search needs)
-    element-copy-out-own
+    (λ c κs. search needs)
     after-operands-requires
     after-differences-requires
     returns)

@@ -8,7 +8,7 @@ use Rattle.cut.proofs.quick.ask.Tie as tie
 returns : tie.Need-returns
 returns c = λ S may asked.
     let fits = c .before .before .before .before in
-    let marked = fits .before .before .before .before .mark-inside .ensures in
+    let marked = fits .before .before .before .mark-inside .ensures in
     let le = c .before .before .before .if1 .taken in (
       λ l. walk-allowed S may _ _ _ _ asked marked _ _ _ (fits .cut-fits .ensures S (walk-asked S may _ _ _ _ asked marked)) le
           (c .before .all-leaves .ensures (c .if2 .taken)),

@@ -11,35 +11,35 @@ use Rattle.level.proofs.cuts.lowest_cutless.Statement.{statement}
 use Rattle.level.proofs.cuts.lowest_cutless.Tie as tie
 
 abbrev Inv-loop : tie.InvT-loop
-Inv-loop graph kept₀ code₀ seen₀ above₀ cut₀ n k v₀ kept code seen above cut v = (v ≤ n) × (length kept ≡ 2048) × ((S : Sheet) → KeptTo S graph n k kept v)
+Inv-loop graph kept₀ n k v₀ kept v = (v ≤ n) × (length kept ≡ 2048) × ((S : Sheet) → KeptTo S graph n k kept v)
 
 abbrev μ-loop : tie.MeasureT-loop
-μ-loop graph kept₀ code₀ seen₀ above₀ cut₀ n k v₀ kept code seen above cut v = n - v
+μ-loop graph kept₀ n k v₀ kept v = n - v
 
 loop-holds : tie.Need-loop-holds Inv-loop μ-loop
 loop-holds c = (omega arith, length-replicate {A = ℕ} 2048 0, λ S. kept-none S _ _ _ _)
 
 has-cut-requires : tie.Need-has-cut-requires Inv-loop μ-loop
 has-cut-requires c κs =
-    let s = c .before .before .before .before .before .before .before .before in
-    let l = c .before .before .before .before .before .before .loop in
-    let t = c .before .before .before .before .before .loop-test .taken in
+    let s = c .before .before .before .before in
+    let l = c .before .before .loop in
+    let t = c .before .loop-test .taken in
     let n = s .pre .1 .0 in
     (s .pre .0, ((omega arith, s .pre .1 .1), l .inv .1))
 
 returns : tie.Need-returns Inv-loop μ-loop
 returns c =
-    let s = c .before .before .before .before .before .before .before .before .before .before in
-    let l = c .before .before .before .before .before .before .before .before .loop in
+    let s = c .before .before .before .before .before .before in
+    let l = c .before .before .before .before .loop in
     let e = c .before .has-cut in
-    λ S. lowest-found S (s .args .graph .now) (s .args .n) (s .args .k) (l .kept) (e .last .1 .0) (l .v) (e .result) (not-true _ (c .if1 .taken)) (c .before .before .before .before .before .before .before .loop-test .taken) (e .ensures .0 S) (l .inv .2 S)
+    λ S. lowest-found S (s .args .graph .now) (s .args .n) (s .args .k) (l .kept) (e .last .1 .0) (l .v) (e .result) (not-true _ (c .if1 .taken)) (c .before .before .before .loop-test .taken) (e .ensures .0 S) (l .inv .2 S)
 
 loop-again : tie.Need-loop-again Inv-loop μ-loop
 loop-again c =
-    let s = c .before .before .before .before .before .before .before .before .before .before in
-    let l = c .before .before .before .before .before .before .before .before .loop in
+    let s = c .before .before .before .before .before .before in
+    let l = c .before .before .before .before .loop in
     let e = c .before .has-cut in
-    let t = c .before .before .before .before .before .before .before .loop-test .taken in
+    let t = c .before .before .before .loop-test .taken in
     (omega arith, e .ensures .1 .1, λ S. kept-more S (s .args .graph .now) (s .args .n) (s .args .k) (l .kept) (e .last .1 .0) (l .v) (e .result) (not-false _ (c .if1 .left)) t (e .ensures .1 .0) (e .ensures .0 S) (l .inv .2 S))
 
 returns-2 : tie.Need-returns-2 Inv-loop μ-loop
@@ -51,4 +51,13 @@ returns-2 c =
 pub lowest-cutless-spec : {M : Type 1} → statement M
 lowest-cutless-spec =
     tie.close
-    (tie.spec Inv-loop μ-loop loop-holds has-cut-requires returns (λ c. search needs) (λ c. search needs) loop-again returns-2)
+    (tie.spec
+    Inv-loop
+    μ-loop
+    loop-holds
+    has-cut-requires
+    returns
+    (λ c. search needs)
+    (λ c. search needs)
+    loop-again
+    returns-2)

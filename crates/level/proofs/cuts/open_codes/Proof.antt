@@ -1,6 +1,10 @@
 -- `cuts::open_codes` meets its contract. The invariant: the codes below u are written.
 use Prim.Native.Nat.{_-_, _≤_}
+use mathlib.Core.Path.{ap, _∙_}
+use mathlib.Core.Bool.{true}
 use native.Mathlib.Omega.{arith}
+use Rattle.maps.specs.Sheet.{Kind, isLogic}
+use Rattle.cut.specs.Question.{codeFor}
 use Rattle.level.proofs.CutTests.{OpenTo, open-none, open-more}
 use borrow.Author.Needs.{needs}
 use Rattle.level.proofs.cuts.open_codes.Statement.{statement}
@@ -20,7 +24,8 @@ loop-again c =
     let s = c .before .before .before .before .before in
     let l = c .before .before .before .loop in
     let t = c .before .before .loop-test .taken in
-    (omega arith, open-more (s .args .graph .now) (l .code) (s .args .v) (l .u) (c .code-for .result) t (s .pre) (c .code-for .ensures) (l .inv .1))
+    let e = c .code-for .ensures ∙ ap (λ (k : Kind). codeFor (isLogic k) true) (c .before .kind-in .ensures) in
+    (omega arith, open-more (s .args .graph .now) (l .code) (s .args .v) (l .u) (c .code-for .result) t (s .pre) e (l .inv .1))
 
 returns : tie.Need-returns Inv-loop μ-loop
 returns c =
@@ -35,10 +40,7 @@ open-codes-spec =
     Inv-loop
     μ-loop
     loop-holds
-    (λ c. search needs)
-    (λ c. search needs)
-    (λ c. search needs)
-    (λ c. search needs)
+    (λ c κs. search needs)
     (λ c κs. search needs)
     (λ c. search needs)
     (λ c. search needs)

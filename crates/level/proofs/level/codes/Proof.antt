@@ -4,13 +4,13 @@ use mathlib.Core.Path.{_≡_, refl, _∙_}
 use native.Mathlib.Omega.{arith}
 use lib.ListN.{length, length-set, getD-replicate}
 use Rattle.maps.specs.Code.{labelOf}
-use Rattle.level.proofs.LevelCodes.{Coded, coded-none, coded-more, coded-all}
+use Rattle.level.proofs.LevelCodes.{Coded, code-is, coded-none, coded-more, coded-all}
 use borrow.Author.Needs.{needs}
 use Rattle.level.proofs.level.codes.Statement.{statement}
 use Rattle.level.proofs.level.codes.Tie as tie
 
 abbrev Inv-loop : tie.InvT-loop
-Inv-loop graph steps levels code₀ v top by delay u₀ code u = (length code ≡ 256) × (u ≤ v) × Coded graph steps levels v top (labelOf by) code u
+Inv-loop graph steps levels code₀ v top by delay u₀ code u = (length code ≡ 256) × (u ≤ v) × Coded graph steps levels v (top .0) (labelOf by) code u
 
 abbrev μ-loop : tie.MeasureT-loop
 μ-loop graph steps levels code₀ v top by delay u₀ code u = v - u
@@ -28,7 +28,9 @@ loop-again c =
     let t = c .before .loop-test .taken in
     let p = s .pre .0 in
     let n = l .inv .0 in
-    (length-set (l .code) (l .u) (c .code-of .result) ∙ n, omega arith, coded-more t (omega arith) (c .code-of .ensures) (l .inv .2))
+    let d = c .before .before .before .delay-in in
+    let e = code-is (s .args .graph .now) (s .args .steps .now) (s .args .levels .now) (s .args .v) (s .args .top .0) (l .u) (d .result .0) (c .code-of .result) (labelOf (s .args .by)) (d .ensures) (c .code-of .ensures) in
+    (length-set (l .code) (l .u) (c .code-of .result) ∙ n, omega arith, coded-more t (omega arith) e (l .inv .2))
 
 returns : tie.Need-returns Inv-loop μ-loop
 returns c = coded-all (c .loop-test .left) (c .before .loop .inv .2)
@@ -39,10 +41,7 @@ codes-spec =
     (tie.spec
     Inv-loop
     μ-loop
-    (λ c. search needs)
-    (λ c. search needs)
-    (λ c. search needs)
-    (λ c. search needs)
+    (λ c κs. search needs)
     loop-holds
     code-of-requires
     (λ c. search needs)

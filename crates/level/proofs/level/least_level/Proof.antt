@@ -9,12 +9,11 @@ use Rattle.level.proofs.level.least_level.Statement.{statement}
 use Rattle.level.proofs.level.least_level.Tie as tie
 
 abbrev Inv-loop : tie.InvT-loop
-Inv-loop graph steps levels kept₀ code₀ seen₀ above₀ cut₀ v k top s low most span₀ kept code seen above cut span =
-    (length kept ≡ 2048) × Spanned graph steps levels v k top (s .0) kept₀ kept low (span .low) (span .high)
+Inv-loop graph steps levels kept₀ limits v s span₀ kept span =
+    (length kept ≡ 2048) × Spanned graph steps levels v limits (s .0) kept₀ kept (span₀ .low .0) (span .low .0) (span .high .0)
 
 abbrev μ-loop : tie.MeasureT-loop
-μ-loop graph steps levels kept₀ code₀ seen₀ above₀ cut₀ v k top s low most span₀ kept code seen above cut span =
-    span .high - span .low
+μ-loop graph steps levels kept₀ limits v s span₀ kept span = span .high .0 - span .low .0
 
 carried-requires : tie.Need-carried-requires Inv-loop μ-loop
 carried-requires c κs =
@@ -25,22 +24,22 @@ carried-requires c κs =
 loop-holds : tie.Need-loop-holds Inv-loop μ-loop
 loop-holds c =
     let s = c .before .before .before .before .before in
-    (s .pre .1 .1 .0, spanned-first (s .pre .1 .1 .1) (c .before .carried .ensures) (c .greater .ensures))
+    (s .pre .1 .1 .0, spanned-first (s .pre .1 .1 .1) (c .before .carried .ensures) (c .higher .ensures))
 
 narrow-requires : tie.Need-narrow-requires Inv-loop μ-loop
 narrow-requires c κs =
-    let s = c .before .before .before .before .before .before .before .before .before .before .before .before .before in
-    let i = c .before .before .before .before .before .before .before .loop .inv in
-    ((s .pre .0 .0, s .pre .0 .1), (s .pre .1 .0, (i .0, (c .before .before .before .before .before .if1 .taken, i .1 .most))))
+    let s = c .before .before .before .before .before .before .before .before .before in
+    let i = c .before .before .before .loop .inv in
+    ((s .pre .0 .0, s .pre .0 .1), (s .pre .1 .0, (i .0, (c .before .if1 .taken, i .1 .most))))
 
 loop-less : tie.Need-loop-less Inv-loop μ-loop
 loop-less c = c .narrow .ensures .0 .less
 
 loop-again : tie.Need-loop-again Inv-loop μ-loop
-loop-again c = (c .narrow .ensures .1, spanned-more (c .before .before .before .before .before .before .before .before .loop .inv .1) (c .narrow .ensures .0))
+loop-again c = (c .narrow .ensures .1, spanned-more (c .before .before .before .before .loop .inv .1) (c .narrow .ensures .0))
 
 returns : tie.Need-returns Inv-loop μ-loop
-returns c = let i = c .before .before .loop .inv in (spanned-last (c .if1 .left) (i .1), i .0)
+returns c = let i = c .before .before .before .loop .inv in (spanned-last (c .before .if1 .left) (i .1), i .0)
 
 pub least-level-spec : {M : Type 1} → statement M
 least-level-spec =

@@ -13,16 +13,16 @@ returns c =
 
 plan-kept-requires : tie.Need-plan-kept-requires
 plan-kept-requires c κs =
-    let h = c .before .before .before .before .before .before in
+    let h = c .before .before in
     let e = h .before .before .lowest-cutless .ensures in
-    let s = h .before .before .before .before .before .before .before .before in
+    let s = h .before .before .before .before in
     let p = s .pre .1 in
     let k = all-cut (p .1) (e (p .0)) (h .if1 .left) in
     (s .pre .0, (p .0, p .1, k .1, k .0))
 
 returns-2 : tie.Need-returns-2
 returns-2 c =
-    let h = c .before .before .before .before .before .before .before in
+    let h = c .before .before .before in
     let e = h .before .before .lowest-cutless .ensures in
     let w = c .plan-kept .ensures in (
       λ S g room.

@@ -16,20 +16,20 @@ link-requires c κs = let g = c .before .before .before .before .before .before 
 
 relax-requires : tie.Need-relax-requires
 relax-requires c κs =
-    let h = c .before .before .before .before .before .before .before .before .before .before .before .before .before in
+    let h = c .before .before .before .before .before .before .before .before in
     let e = h .before .start in
     let p = h .before .before .before .before .pre in
     let f = rw (not-false (e .result) (h .if1 .left)) at (e .ensures) in
-    (p .0, first-going (p .1) (c .before .before .before .before .before .before .before .before .before .before .link .ensures) (p .2) f, first-pass (p .1) f)
+    (p .0, first-going (p .1) (c .before .before .before .before .before .link .ensures) (p .2) f, first-pass (p .1) f)
 
 returns-2 : tie.Need-returns-2
 returns-2 c S given kept cuts =
-    let h = c .before .before .before .before .before .before .before .before .before .before .before .before .before .before in
+    let h = c .before .before .before .before .before .before .before .before .before in
     let e = h .before .start in
     let f = rw (not-false (e .result) (h .if1 .left)) at (e .ensures) in
     let r = c .relax in
     labels-end given cuts (r .last .1 .1 .1 .1 .1 .1 .0) (r .last .1 .1 .1 .1 .1 .1 .1 .0) (r .result)
-    (r .ensures S (first-going given (c .before .before .before .before .before .before .before .before .before .before .before .link .ensures) kept f) (first-pass given f))
+    (r .ensures S (first-going given (c .before .before .before .before .before .before .link .ensures) kept f) (first-pass given f))
 
 pub least-labels-spec : {M : Type 1} → statement M
 least-labels-spec = tie.close (tie.spec (λ c κs. search needs) returns link-requires relax-requires returns-2)

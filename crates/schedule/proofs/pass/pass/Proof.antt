@@ -15,13 +15,13 @@ use Rattle.schedule.proofs.pass.pass.Statement.{statement}
 use Rattle.schedule.proofs.pass.pass.Tie as tie
 
 abbrev Inv-loop : tie.InvT-loop
-Inv-loop graph differences limits first next kept₀ steps₀ levels₀ code₀ seen₀ above₀ cut₀ v₀ kept steps levels code seen above cut v =
+Inv-loop graph differences limits first next kept₀ steps₀ levels₀ v₀ kept steps levels v =
     (v ≤ limits .nodes)
     × ((S : Sheet) → Going S graph differences limits first next kept₀ steps₀ levels₀ → Pass S (labelIn steps₀ levels₀) 0
     → Going S graph differences limits first next kept steps levels × Passing S (labelIn steps₀ levels₀) v (labelIn steps levels))
 
 abbrev μ-loop : tie.MeasureT-loop
-μ-loop graph differences limits first next kept₀ steps₀ levels₀ code₀ seen₀ above₀ cut₀ v₀ kept steps levels code seen above cut v =
+μ-loop graph differences limits first next kept₀ steps₀ levels₀ v₀ kept steps levels v =
     limits .nodes - v
 
 loop-holds : tie.Need-loop-holds Inv-loop μ-loop
@@ -29,16 +29,16 @@ loop-holds c = (omega arith, λ S going p. (going, begin))
 
 settle-requires : tie.Need-settle-requires Inv-loop μ-loop
 settle-requires c κs =
-    let t = c .before .before .before .before .before .before .before in
+    let t = c .before .before .before in
     let l = t .before .before .loop in
     let p = t .before .before .before .pre in
     let i = l .inv .1 (p .0) (p .1) (p .2) in
-    (p .0, i .0, passing-pass (p .0) (well-closed (p .0) (p .1 .given .well)) _ (p .2) (l .v) _ (i .1), t .if1 .taken)
+    ((p .0, i .0, passing-pass (p .0) (well-closed (p .0) (p .1 .given .well)) _ (p .2) (l .v) _ (i .1)), t .if1 .taken)
 
 returns : tie.Need-returns Inv-loop μ-loop
 returns c S going p =
     let e = c .before .settle in
-    let t = c .before .before .before .before .before .before .before .before .before in
+    let t = c .before .before .before .before .before in
     let l = t .before .before .loop in
     let i = l .inv .1 S going p in
     rw (not-true (e .result) (c .if2 .taken)) at (e .ensures S (i .0) (passing-pass S (well-closed S (going .given .well)) _ p (l .v) _ (i .1)) (t .if1 .taken))
@@ -46,7 +46,7 @@ returns c S going p =
 loop-again : tie.Need-loop-again Inv-loop μ-loop
 loop-again c =
     let e = c .before .settle in
-    let t = c .before .before .before .before .before .before .before .before .before in
+    let t = c .before .before .before .before .before in
     let l = t .before .before .loop in
     let s = t .before .before .before in (
       omega (arith, t .if1 .taken),

@@ -6,19 +6,20 @@ use native.Mathlib.Nat.{sub-zero}
 use native.Mathlib.Omega.{arith}
 use lib.ListN.{length}
 use Rattle.sheet.specs.Code.{progressMeant}
+use Rattle.sheet.specs.Table.{operandPlace}
 use Rattle.sheet.specs.Fill.{repeatInto, operandInto}
 use Rattle.sheet.proofs.Turns.{turn, stop, done}
 use Rattle.sheet.proofs.fill.read_operands.Statement.{statement}
 use Rattle.sheet.proofs.fill.read_operands.Tie as tie
 
 abbrev Inv-loop : tie.InvT-loop
-Inv-loop sheet own base count graph₀ at₀ i₀ graph at i =
+Inv-loop sheet own count graph₀ at₀ i₀ graph at i =
     (length graph ≡ length graph₀)
     × (i ≤ count)
-    × (repeatInto (operandInto sheet own base) count 0 (at₀ .at) graph₀ ≡ repeatInto (operandInto sheet own base) (count - i) i (at .at) graph)
+    × (repeatInto (operandInto sheet own (operandPlace own)) count 0 (at₀ .at) graph₀ ≡ repeatInto (operandInto sheet own (operandPlace own)) (count - i) i (at .at) graph)
 
 abbrev μ-loop : tie.MeasureT-loop
-μ-loop sheet own base count graph₀ at₀ i₀ graph at i = count - i
+μ-loop sheet own count graph₀ at₀ i₀ graph at i = count - i
 
 loop-holds : tie.Need-loop-holds Inv-loop μ-loop
 loop-holds c = (refl, search needs, rw sub-zero)

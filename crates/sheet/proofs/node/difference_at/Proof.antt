@@ -1,54 +1,66 @@
--- `sheet::difference_at` meets its contract: one number after the other, as the definition reads them.
-use borrow.Author.Needs.{needs}
+-- `node::difference_at` meets its contract: one number after the other, as the definition reads them.
 use Rattle.maps.specs.Read.{readDifference}
+use Rattle.number.proofs.RangeLaws.{ids-right}
+use borrow.Author.Needs.{needs}
 use Rattle.sheet.proofs.node.difference_at.Statement.{statement}
 use Rattle.sheet.proofs.node.difference_at.Tie as tie
 
 returns : tie.Need-returns
 unfolding readDifference
-returns c = rw (c .refusal-of .ensures, ← c .before .before .before .field .ensures, c .before .enum-told .given .1)
+returns c =
+    let f = c .before .before .before in
+    let s = f .before .before .before .before in
+    let ids = ids-right (s .args .n) (f .before .before .range-of .result) (f .before .up-to .result) (s .pre .1) (f .before .before .range-of .ensures) (f .before .up-to .ensures) in
+    rw (← (rw (ids .0, ids .1) at (f .field-in .ensures)), c .refusal-of .ensures)
 
 returns-2 : tie.Need-returns-2
 unfolding readDifference
 returns-2 c =
-    let p = c .before .before .before .before in
-    rw (
-      c .refusal-of2 .ensures,
-      ← p .before .before .before .field .ensures,
-      p .before .from-read .given .1,
-      ← c .before .before .before .field2 .ensures,
-      c .before .enum-told2 .given .1,
-    )
+    let g = c .before .before .before in
+    let p = g .before in
+    let f = p .before .before .before in
+    let s = f .before .before .before .before in
+    let ids = ids-right (s .args .n) (f .before .before .range-of .result) (f .before .up-to .result) (s .pre .1) (f .before .before .range-of .ensures) (f .before .up-to .ensures) in
+    rw (← (rw (ids .0, ids .1) at (f .field-in .ensures)), p .before .from-read .given .1, ← (rw (ids .0, ids .1) at (g .field-in2 .ensures)), c .refusal-of2 .ensures)
 
 returns-3 : tie.Need-returns-3
 unfolding readDifference
 returns-3 c =
-    let q = c .before .before .before .before in
-    let p = q .before .before .before .before in
+    let h = c .before .before .before in
+    let q = h .before in
+    let g = q .before .before .before in
+    let p = g .before in
+    let f = p .before .before .before in
+    let s = f .before .before .before .before in
+    let ids = ids-right (s .args .n) (f .before .before .range-of .result) (f .before .up-to .result) (s .pre .1) (f .before .before .range-of .ensures) (f .before .up-to .ensures) in
     rw (
-      c .refusal-of3 .ensures,
-      ← p .before .before .before .field .ensures,
+      ← (rw (ids .0, ids .1) at (f .field-in .ensures)),
       p .before .from-read .given .1,
-      ← q .before .before .before .field2 .ensures,
+      ← (rw (ids .0, ids .1) at (g .field-in2 .ensures)),
       q .before .to-read .given .1,
-      ← c .before .before .before .field3 .ensures,
-      c .before .enum-told3 .given .1,
+      ← h .field-at .ensures,
+      c .refusal-of3 .ensures,
     )
 
 returns-4 : tie.Need-returns-4
 unfolding readDifference
 returns-4 c =
     let r = c .before .before in
-    let q = r .before .before .before .before in
-    let p = q .before .before .before .before in
+    let h = r .before .before .before in
+    let q = h .before in
+    let g = q .before .before .before in
+    let p = g .before in
+    let f = p .before .before .before in
+    let s = f .before .before .before .before in
+    let ids = ids-right (s .args .n) (f .before .before .range-of .result) (f .before .up-to .result) (s .pre .1) (f .before .before .range-of .ensures) (f .before .up-to .ensures) in
     rw (
       c .before .ahead-of .ensures,
       c .back-of .ensures,
-      ← p .before .before .before .field .ensures,
+      ← (rw (ids .0, ids .1) at (f .field-in .ensures)),
       p .before .from-read .given .1,
-      ← q .before .before .before .field2 .ensures,
+      ← (rw (ids .0, ids .1) at (g .field-in2 .ensures)),
       q .before .to-read .given .1,
-      ← r .before .before .before .field3 .ensures,
+      ← h .field-at .ensures,
       r .before .code-read .given .1,
     )
 
@@ -56,13 +68,14 @@ pub difference-at-spec : {M : Type 1} → statement M
 difference-at-spec =
     tie.close
     (tie.spec
+    (λ c κs. search needs)
     (λ c. search needs)
+    (λ c κs. search needs)
     (λ c κs. search needs)
     (λ c. search needs)
     (λ c. search needs)
     (λ c κs. search needs)
     returns
-    (λ c. search needs)
     (λ c κs. search needs)
     (λ c. search needs)
     (λ c. search needs)

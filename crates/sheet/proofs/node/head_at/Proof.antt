@@ -1,118 +1,139 @@
--- `sheet::head_at` meets its contract: one number after the other, each in the range that the table gives for the kind.
-use borrow.Author.Needs.{needs}
+-- `node::head_at` meets its contract: one number after the other, each in the range that the table gives for the kind.
 use Rattle.maps.specs.Read.{readHead}
-use Rattle.number.proofs.RangeLaws.{ranges-right}
+use Rattle.number.proofs.RangeLaws.{delays-right, latencies-right, operands-right}
+use borrow.Author.Needs.{needs}
 use Rattle.sheet.proofs.node.head_at.Statement.{statement}
 use Rattle.sheet.proofs.node.head_at.Tie as tie
 
 returns : tie.Need-returns
 unfolding readHead
-returns c = rw (c .refusal-of .ensures, ← c .before .before .before .field .ensures, c .before .enum-told .given .1)
+returns c =
+    let f1 = c .before .before .before in
+    rw (
+      ← f1 .field-at .ensures,
+      c .refusal-of .ensures,
+    )
 
 returns-2 : tie.Need-returns-2
 unfolding readHead
 returns-2 c =
-    let p1 = c .before .before .before .before in
+    let f2 = c .before .before .before in
+    let p1 = f2 .before in
+    let f1 = p1 .before .before .before in
     rw (
-      c .refusal-of2 .ensures,
-      ← p1 .before .before .before .field .ensures,
+      ← f1 .field-at .ensures,
       p1 .before .kind-read .given .1,
-      ← c .before .before .before .field2 .ensures,
-      c .before .enum-told2 .given .1,
+      ← f2 .field-at2 .ensures,
+      c .refusal-of2 .ensures,
     )
 
 returns-3 : tie.Need-returns-3
 unfolding readHead
 returns-3 c =
-    let q = c .before .before .before in
-    let p2 = q .before .before .before .before in
-    let p1 = p2 .before .before .before .before in
-    let start = p1 .before .before .before .before .before in
+    let f3 = c .before .before .before in
+    let p2 = f3 .before .before .before .before in
+    let f2 = p2 .before .before .before in
+    let p1 = f2 .before in
+    let f1 = p1 .before .before .before in
+    let s = f1 .before .before in
+    let code = p1 .before .kind-read .given .0 .0 in
+    let all = f3 .before .before .before .ranges-of in
+    let d = delays-right (s .args .top) code (all .result) (s .pre) (all .ensures) _ (f3 .before .up-to .ensures) in
     rw (
-      c .refusal-of3 .ensures,
-      ← p1 .before .before .before .field .ensures,
+      ← f1 .field-at .ensures,
       p1 .before .kind-read .given .1,
-      ← p2 .before .before .before .field2 .ensures,
+      ← f2 .field-at2 .ensures,
       p2 .before .mark-read .given .1,
-      ← ranges-right (start .args .top) _ (start .pre),
-      ← q .before .before .before .ranges-of .ensures,
-      ← q .before .lesser .ensures,
-      ← q .field3 .ensures,
-      c .before .enum-told3 .given .1,
+      ← (rw (d .0, d .1) at (f3 .field-in .ensures)),
+      c .refusal-of3 .ensures,
     )
 
 returns-4 : tie.Need-returns-4
 unfolding readHead
 returns-4 c =
-    let p3 = c .before .before .before .before .before in
-    let q = p3 .before .before .before in
-    let p2 = q .before .before .before .before in
-    let p1 = p2 .before .before .before .before in
-    let start = p1 .before .before .before .before .before in
+    let f4 = c .before .before .before in
+    let p3 = f4 .before .before in
+    let f3 = p3 .before .before .before in
+    let p2 = f3 .before .before .before .before in
+    let f2 = p2 .before .before .before in
+    let p1 = f2 .before in
+    let f1 = p1 .before .before .before in
+    let s = f1 .before .before in
+    let code = p1 .before .kind-read .given .0 .0 in
+    let all = f3 .before .before .before .ranges-of in
+    let d = delays-right (s .args .top) code (all .result) (s .pre) (all .ensures) _ (f3 .before .up-to .ensures) in
+    let l = latencies-right (s .args .top) code (all .result) (s .pre) (all .ensures) in
     rw (
-      c .refusal-of4 .ensures,
-      ← p1 .before .before .before .field .ensures,
+      ← f1 .field-at .ensures,
       p1 .before .kind-read .given .1,
-      ← p2 .before .before .before .field2 .ensures,
+      ← f2 .field-at2 .ensures,
       p2 .before .mark-read .given .1,
-      ← ranges-right (start .args .top) _ (start .pre),
-      ← q .before .before .before .ranges-of .ensures,
-      ← q .before .lesser .ensures,
-      ← q .field3 .ensures,
+      ← (rw (d .0, d .1) at (f3 .field-in .ensures)),
       p3 .before .delay-read .given .1,
-      ← c .before .before .before .field4 .ensures,
-      c .before .enum-told4 .given .1,
+      ← (rw (l .0, l .1) at (f4 .field-in2 .ensures)),
+      c .refusal-of4 .ensures,
     )
 
 returns-5 : tie.Need-returns-5
 unfolding readHead
 returns-5 c =
-    let p4 = c .before .before .before .before .before in
-    let p3 = p4 .before .before .before .before .before in
-    let q = p3 .before .before .before in
-    let p2 = q .before .before .before .before in
-    let p1 = p2 .before .before .before .before in
-    let start = p1 .before .before .before .before .before in
+    let f5 = c .before .before .before in
+    let p4 = f5 .before .before in
+    let f4 = p4 .before .before .before in
+    let p3 = f4 .before .before in
+    let f3 = p3 .before .before .before in
+    let p2 = f3 .before .before .before .before in
+    let f2 = p2 .before .before .before in
+    let p1 = f2 .before in
+    let f1 = p1 .before .before .before in
+    let s = f1 .before .before in
+    let code = p1 .before .kind-read .given .0 .0 in
+    let all = f3 .before .before .before .ranges-of in
+    let d = delays-right (s .args .top) code (all .result) (s .pre) (all .ensures) _ (f3 .before .up-to .ensures) in
+    let l = latencies-right (s .args .top) code (all .result) (s .pre) (all .ensures) in
+    let o = operands-right (s .args .top) code (all .result) (s .pre) (all .ensures) in
     rw (
-      c .refusal-of5 .ensures,
-      ← p1 .before .before .before .field .ensures,
+      ← f1 .field-at .ensures,
       p1 .before .kind-read .given .1,
-      ← p2 .before .before .before .field2 .ensures,
+      ← f2 .field-at2 .ensures,
       p2 .before .mark-read .given .1,
-      ← ranges-right (start .args .top) _ (start .pre),
-      ← q .before .before .before .ranges-of .ensures,
-      ← q .before .lesser .ensures,
-      ← q .field3 .ensures,
+      ← (rw (d .0, d .1) at (f3 .field-in .ensures)),
       p3 .before .delay-read .given .1,
-      ← p4 .before .before .before .field4 .ensures,
+      ← (rw (l .0, l .1) at (f4 .field-in2 .ensures)),
       p4 .before .latency-read .given .1,
-      ← c .before .before .before .field5 .ensures,
-      c .before .enum-told5 .given .1,
+      ← (rw (o .0, o .1) at (f5 .field-in3 .ensures)),
+      c .refusal-of5 .ensures,
     )
 
 returns-6 : tie.Need-returns-6
 unfolding readHead
 returns-6 c =
     let p5 = c .before in
-    let p4 = p5 .before .before .before .before .before in
-    let p3 = p4 .before .before .before .before .before in
-    let q = p3 .before .before .before in
-    let p2 = q .before .before .before .before in
-    let p1 = p2 .before .before .before .before in
-    let start = p1 .before .before .before .before .before in
+    let f5 = p5 .before .before .before in
+    let p4 = f5 .before .before in
+    let f4 = p4 .before .before .before in
+    let p3 = f4 .before .before in
+    let f3 = p3 .before .before .before in
+    let p2 = f3 .before .before .before .before in
+    let f2 = p2 .before .before .before in
+    let p1 = f2 .before in
+    let f1 = p1 .before .before .before in
+    let s = f1 .before .before in
+    let code = p1 .before .kind-read .given .0 .0 in
+    let all = f3 .before .before .before .ranges-of in
+    let d = delays-right (s .args .top) code (all .result) (s .pre) (all .ensures) _ (f3 .before .up-to .ensures) in
+    let l = latencies-right (s .args .top) code (all .result) (s .pre) (all .ensures) in
+    let o = operands-right (s .args .top) code (all .result) (s .pre) (all .ensures) in
     rw (
-      ← p1 .before .before .before .field .ensures,
+      ← f1 .field-at .ensures,
       p1 .before .kind-read .given .1,
-      ← p2 .before .before .before .field2 .ensures,
+      ← f2 .field-at2 .ensures,
       p2 .before .mark-read .given .1,
-      ← ranges-right (start .args .top) _ (start .pre),
-      ← q .before .before .before .ranges-of .ensures,
-      ← q .before .lesser .ensures,
-      ← q .field3 .ensures,
+      ← (rw (d .0, d .1) at (f3 .field-in .ensures)),
       p3 .before .delay-read .given .1,
-      ← p4 .before .before .before .field4 .ensures,
+      ← (rw (l .0, l .1) at (f4 .field-in2 .ensures)),
       p4 .before .latency-read .given .1,
-      ← p5 .before .before .before .field5 .ensures,
+      ← (rw (o .0, o .1) at (f5 .field-in3 .ensures)),
       p5 .before .count-read .given .1,
       c .kind-of .ensures,
     )

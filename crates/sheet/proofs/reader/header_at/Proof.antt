@@ -1,6 +1,6 @@
--- `sheet::header_at` meets its contract: one number after the other, each in its range.
-use borrow.Author.Needs.{needs}
+-- `reader::header_at` meets its contract: one number after the other, each in its range.
 use Rattle.maps.specs.Read.{readHeader}
+use borrow.Author.Needs.{needs}
 use Rattle.sheet.proofs.reader.header_at.Statement.{statement}
 use Rattle.sheet.proofs.reader.header_at.Tie as tie
 
@@ -9,115 +9,109 @@ unfolding readHeader
 returns c =
     let f1 = c .before .before .before in
     rw (
+      ← f1 .field-at .ensures,
       c .refusal-of .ensures,
-      ← (rw (f1 .before .header-range .ensures) at (f1 .field .ensures)),
-      c .before .enum-told .given .1,
     )
 
 returns-2 : tie.Need-returns-2
 unfolding readHeader
 returns-2 c =
     let f2 = c .before .before .before in
-    let p1 = f2 .before .before in
+    let p1 = f2 .before in
     let f1 = p1 .before .before .before in
     rw (
-      c .refusal-of2 .ensures,
-      ← (rw (f1 .before .header-range .ensures) at (f1 .field .ensures)),
+      ← f1 .field-at .ensures,
       p1 .before .read1 .given .1,
-      ← (rw (f2 .before .header-range2 .ensures) at (f2 .field2 .ensures)),
-      c .before .enum-told2 .given .1,
+      ← f2 .field-at2 .ensures,
+      c .refusal-of2 .ensures,
     )
 
 returns-3 : tie.Need-returns-3
 unfolding readHeader
 returns-3 c =
     let f3 = c .before .before .before in
-    let p2 = f3 .before .before in
+    let p2 = f3 .before in
     let f2 = p2 .before .before .before in
-    let p1 = f2 .before .before in
+    let p1 = f2 .before in
     let f1 = p1 .before .before .before in
     rw (
-      c .refusal-of3 .ensures,
-      ← (rw (f1 .before .header-range .ensures) at (f1 .field .ensures)),
+      ← f1 .field-at .ensures,
       p1 .before .read1 .given .1,
-      ← (rw (f2 .before .header-range2 .ensures) at (f2 .field2 .ensures)),
+      ← f2 .field-at2 .ensures,
       p2 .before .read2 .given .1,
-      ← (rw (f3 .before .header-range3 .ensures) at (f3 .field3 .ensures)),
-      c .before .enum-told3 .given .1,
+      ← f3 .field-at3 .ensures,
+      c .refusal-of3 .ensures,
     )
 
 returns-4 : tie.Need-returns-4
 unfolding readHeader
 returns-4 c =
     let f4 = c .before .before .before in
-    let p3 = f4 .before .before in
+    let p3 = f4 .before in
     let f3 = p3 .before .before .before in
-    let p2 = f3 .before .before in
+    let p2 = f3 .before in
     let f2 = p2 .before .before .before in
-    let p1 = f2 .before .before in
+    let p1 = f2 .before in
     let f1 = p1 .before .before .before in
     rw (
-      c .refusal-of4 .ensures,
-      ← (rw (f1 .before .header-range .ensures) at (f1 .field .ensures)),
+      ← f1 .field-at .ensures,
       p1 .before .read1 .given .1,
-      ← (rw (f2 .before .header-range2 .ensures) at (f2 .field2 .ensures)),
+      ← f2 .field-at2 .ensures,
       p2 .before .read2 .given .1,
-      ← (rw (f3 .before .header-range3 .ensures) at (f3 .field3 .ensures)),
+      ← f3 .field-at3 .ensures,
       p3 .before .read3 .given .1,
-      ← (rw (f4 .before .header-range4 .ensures) at (f4 .field4 .ensures)),
-      c .before .enum-told4 .given .1,
+      ← f4 .field-at4 .ensures,
+      c .refusal-of4 .ensures,
     )
 
 returns-5 : tie.Need-returns-5
 unfolding readHeader
 returns-5 c =
     let f5 = c .before .before .before in
-    let p4 = f5 .before .before in
+    let p4 = f5 .before in
     let f4 = p4 .before .before .before in
-    let p3 = f4 .before .before in
+    let p3 = f4 .before in
     let f3 = p3 .before .before .before in
-    let p2 = f3 .before .before in
+    let p2 = f3 .before in
     let f2 = p2 .before .before .before in
-    let p1 = f2 .before .before in
+    let p1 = f2 .before in
     let f1 = p1 .before .before .before in
     rw (
-      c .refusal-of5 .ensures,
-      ← (rw (f1 .before .header-range .ensures) at (f1 .field .ensures)),
+      ← f1 .field-at .ensures,
       p1 .before .read1 .given .1,
-      ← (rw (f2 .before .header-range2 .ensures) at (f2 .field2 .ensures)),
+      ← f2 .field-at2 .ensures,
       p2 .before .read2 .given .1,
-      ← (rw (f3 .before .header-range3 .ensures) at (f3 .field3 .ensures)),
+      ← f3 .field-at3 .ensures,
       p3 .before .read3 .given .1,
-      ← (rw (f4 .before .header-range4 .ensures) at (f4 .field4 .ensures)),
+      ← f4 .field-at4 .ensures,
       p4 .before .read4 .given .1,
-      ← (rw (f5 .before .header-range5 .ensures) at (f5 .field5 .ensures)),
-      c .before .enum-told5 .given .1,
+      ← f5 .field-at5 .ensures,
+      c .refusal-of5 .ensures,
     )
 
 returns-6 : tie.Need-returns-6
 unfolding readHeader
 returns-6 c =
-    let p5 = c in
-    let f5 = p5 .before .before .before in
-    let p4 = f5 .before .before in
+    let f5 = c .before .before .before in
+    let p4 = f5 .before in
     let f4 = p4 .before .before .before in
-    let p3 = f4 .before .before in
+    let p3 = f4 .before in
     let f3 = p3 .before .before .before in
-    let p2 = f3 .before .before in
+    let p2 = f3 .before in
     let f2 = p2 .before .before .before in
-    let p1 = f2 .before .before in
+    let p1 = f2 .before in
     let f1 = p1 .before .before .before in
     rw (
-      ← (rw (f1 .before .header-range .ensures) at (f1 .field .ensures)),
+      ← f1 .field-at .ensures,
       p1 .before .read1 .given .1,
-      ← (rw (f2 .before .header-range2 .ensures) at (f2 .field2 .ensures)),
+      ← f2 .field-at2 .ensures,
       p2 .before .read2 .given .1,
-      ← (rw (f3 .before .header-range3 .ensures) at (f3 .field3 .ensures)),
+      ← f3 .field-at3 .ensures,
       p3 .before .read3 .given .1,
-      ← (rw (f4 .before .header-range4 .ensures) at (f4 .field4 .ensures)),
+      ← f4 .field-at4 .ensures,
       p4 .before .read4 .given .1,
-      ← (rw (f5 .before .header-range5 .ensures) at (f5 .field5 .ensures)),
-      p5 .before .read5 .given .1,
+      ← f5 .field-at5 .ensures,
+      c .before .read5 .given .1,
     )
 
 pub header-at-spec : {M : Type 1} → statement M
@@ -125,30 +119,25 @@ header-at-spec =
     tie.close
     (tie.spec
     (λ c κs. search needs)
-    (λ c κs. search needs)
     (λ c. search needs)
     (λ c. search needs)
     (λ c κs. search needs)
     returns
-    (λ c κs. search needs)
     (λ c κs. search needs)
     (λ c. search needs)
     (λ c. search needs)
     (λ c κs. search needs)
     returns-2
     (λ c κs. search needs)
-    (λ c κs. search needs)
     (λ c. search needs)
     (λ c. search needs)
     (λ c κs. search needs)
     returns-3
     (λ c κs. search needs)
-    (λ c κs. search needs)
     (λ c. search needs)
     (λ c. search needs)
     (λ c κs. search needs)
     returns-4
-    (λ c κs. search needs)
     (λ c κs. search needs)
     (λ c. search needs)
     (λ c. search needs)

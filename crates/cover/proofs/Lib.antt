@@ -1,0 +1,3 @@
+pub mod CoverMarks
+pub mod CoverCut
+pub mod CoverTurn

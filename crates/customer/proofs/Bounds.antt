@@ -1,0 +1,140 @@
+-- Every number is one of 0 to 8, and no plan is longer than `planMost`.
+use Prim.Native.Nat.{ℕ, _+_, _*_, _/_, _%_, _≤_, _<_}
+use mathlib.Core.Path.{_≡_, refl}
+use mathlib.Core.Bool.{Bool, true, false, cond, _&&_}
+use mathlib.Core.List.{List, [], _∷_, map, List·Memᴰ}
+use mathlib.Core.Logic.{_⊎_, inl, inr}
+use native.Mathlib.Omega.{arith}
+use native.Mathlib.Nat.{suc-mul}
+use lib.Dec.{ltb}
+use lib.ListN.{length, length-append, length-map}
+use borrow.Author.Tests.{lt-ltb}
+use Rattle.maps.specs.Lists.{All, mem, below, concat}
+use Rattle.maps.specs.Label.{Label}
+use Rattle.maps.specs.Sheet.{Sheet, size}
+use Rattle.maps.specs.Cut.{logicNode}
+use Rattle.maps.specs.Legal.{Legal, latencyOfAll}
+use Rattle.maps.specs.Least.{at}
+use Rattle.maps.specs.Cover.{chosenCut, carryingCuts, used}
+use Rattle.maps.specs.Number.{encoded, encodedUpTo}
+use Rattle.maps.specs.Plan.{leavesOf, row, plan}
+use Rattle.maps.specs.WellFormed.{WellFormed}
+use Rattle.maps.proofs.Member.{All-of, everywhere, below-out}
+use Rattle.maps.proofs.Over.{length-over}
+use Rattle.maps.proofs.Chosen.{best-in, carrying-sound}
+use Rattle.maps.specs.Outcome.{accepted, refusal, outcome, outcomeNumber}
+use Rattle.maps.proofs.Parse.{parse-well}
+use Rattle.customer.specs.Bounds.{rowMost, planMost, Bounded}
+use Rattle.customer.specs.Demands.{Ground, unread, uncut, tooLate, tooShort, planned}
+use Rattle.customer.proofs.Grounds.{parse-grounds}
+use Rattle.customer.proofs.Demands.{ground-of}
+
+-- a number has at most two bytes, and one below 128 has one
+number-length : (n : ℕ) → length (encoded n) ≤ 2
+unfolding encodedUpTo
+number-length n = go (ltb n 128)
+  where
+    go : (b : Bool) → length (cond b (n ∷ []) ((128 + n % 128) ∷ (n / 128) ∷ [])) ≤ 2
+    go true = omega arith
+    go false = omega arith
+
+small-length : (n : ℕ) → n < 128 → length (encoded n) ≤ 1
+unfolding encodedUpTo
+small-length n l = rw (lt-ltb n 128 l) (omega arith)
+
+-- lists of at most b elements each, one after the other
+concat-length : {A B : Type 0} (f : A → List B) (b : ℕ) (xs : List A) → All (λ x. length (f x) ≤ b) xs → length (concat (map f xs)) ≤ length (map f xs) * b
+concat-length f b [] h = omega arith
+concat-length f b (x ∷ xs) h = omega (arith, suc-mul (length (map f xs)) b, length-append (f x) (concat (map f xs)), h .0, concat-length f b xs (h .1))
+
+-- the chosen cut fits, and where there is none its list is empty
+chosen-few : (S : Sheet) (L : List Label) (v : ℕ) → logicNode S v ≡ true → length (chosenCut S L v) ≤ S .leaves
+chosen-few S L v i = go (best-in (carryingCuts S L v))
+  where
+    go : (carryingCuts S L v ≡ []) ⊎ List·Memᴰ (chosenCut S L v) (carryingCuts S L v) → length (chosenCut S L v) ≤ S .leaves
+    go (inl e) = rw e (omega arith)
+    go (inr m) = carrying-sound S L v i (chosenCut S L v) m .0 .fits
+
+leaves-few : (S : Sheet) (L : List Label) (us : List ℕ) (v : ℕ) → length (leavesOf S L us v) ≤ S .leaves
+leaves-few S L us v = go (mem v us) (logicNode S v) refl
+  where
+    go : (a b : Bool) → logicNode S v ≡ b → length (cond (a && b) (chosenCut S L v) []) ≤ S .leaves
+    go true true i = chosen-few S L v i
+    go true false i = omega arith
+    go false b i = omega arith
+
+module _ (S : Sheet) (well : WellFormed S) (L : List Label) (ok : Legal S (at L) (S .horizon)) where
+  -- the row of a node: step, level, mark, leaf count, leaves
+  row-length : (us : List ℕ) (v : ℕ) → v < size S → length (row S L us v) ≤ rowMost
+  row-length us v l =
+      let ls = leavesOf S L us v in
+      let few = leaves-few S L us v in
+      let six = well .leaves .most in
+      let top = well .top .most in
+      let high = ok .nodes v l .high in
+      let leaves = concat-length encoded 2 ls (everywhere number-length ls) in
+      let counted = length-map ls encoded in
+      let count = small-length (length ls) (omega arith) in
+      let level = small-length (at L v .level) (omega arith) in
+      let mark = mark-length (mem v us) in
+      let step = number-length (at L v .step) in
+      simp length-append (omega arith)
+    where
+      mark-length : (b : Bool) → length (encoded (cond b 1 0)) ≤ 1
+      mark-length true = small-length 1 (omega arith)
+      mark-length false = small-length 0 (omega arith)
+
+  pub plan-length : length (plan S L) ≤ planMost
+  unfolding plan
+  plan-length =
+      let rows = concat-length (row S L (used S L)) rowMost (below (size S)) (All-of _ (below (size S)) (λ v m. row-length (used S L) v (below-out (size S) v m))) in
+      let latency = number-length (latencyOfAll S (at L)) in
+      let n = length-over (row S L (used S L)) [] (size S) in
+      let most = well .size .most in
+      simp length-append (omega arith)
+
+module _ (bytes : List ℕ) (room : ℕ) where
+  number-most : {k p : ℕ} → Ground bytes room k p → k ≤ 8
+  number-most (unread k p f) = omega (arith, parse-grounds bytes k p f .1)
+  number-most (uncut S v f h) = omega arith
+  number-most (tooLate S f a n) = omega arith
+  number-most (tooShort S L f a h l) = omega arith
+  number-most (planned S L f a h l) = omega arith
+
+  place-most : {k p : ℕ} → Ground bytes room k p → (k ≡ 0) ⊎ (k ≡ 8) → p ≤ planMost
+  place-most (unread k p f) (inl e) = absurd (omega (arith, parse-grounds bytes k p f .0))
+  place-most (unread k p f) (inr e) = absurd (omega (arith, parse-grounds bytes k p f .1))
+  place-most (uncut S v f h) (inl e) = absurd (omega arith)
+  place-most (uncut S v f h) (inr e) = absurd (omega arith)
+  place-most (tooLate S f a n) e = omega arith
+  place-most (tooShort S L f a h l) e = plan-length S (parse-well bytes S f) L (h .isLeast .legal)
+  place-most (planned S L f a h l) e = plan-length S (parse-well bytes S f) L (h .isLeast .legal)
+
+  room-less : {k p : ℕ} → Ground bytes room k p → k ≡ 8 → room < p
+  room-less (unread k p f) e = absurd (omega (arith, parse-grounds bytes k p f .1))
+  room-less (uncut S v f h) e = absurd (omega arith)
+  room-less (tooLate S f a n) e = absurd (omega arith)
+  room-less (tooShort S L f a h l) e = l
+  room-less (planned S L f a h l) e = absurd (omega arith)
+
+  pub bounded : {k p : ℕ} → Ground bytes room k p → Bounded room k p
+  bounded g =
+      record {
+        numbers = number-most g;
+        written = λ e. place-most g (inl e);
+        wanted = λ e. place-most g (inr e);
+        enough = λ l e. omega (arith, room-less g e, place-most g (inr e));
+      }
+
+  -- the same of the defined outcome
+  pub outcome-number : outcomeNumber (outcome bytes room) ≤ 8
+  outcome-number = number-most (ground-of bytes room)
+
+  pub written-most : (p : List ℕ) → outcome bytes room ≡ accepted p → length p ≤ planMost
+  written-most p e = place-most (rw e at (ground-of bytes room)) (inl refl)
+
+  pub wanted-most : (k : ℕ) → outcome bytes room ≡ refusal 8 k → k ≤ planMost
+  wanted-most k e = place-most (rw e at (ground-of bytes room)) (inr refl)
+
+  pub enough : planMost ≤ room → (k : ℕ) → outcome bytes room ≡ refusal 8 k → ⊥
+  enough l k e = let g = rw e at (ground-of bytes room) in omega (arith, room-less g refl, place-most g (inr refl))

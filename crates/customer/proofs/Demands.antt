@@ -1,0 +1,323 @@
+-- The three demands hold of every answer that is the defined outcome's.
+use Prim.Native.Nat.{ℕ, zero, suc, _≤_, _<_}
+use mathlib.Core.Path.{_≡_, refl, sym, subst, ap, _∙_}
+use mathlib.Core.Bool.{Bool, true, false, cond, _&&_}
+use mathlib.Core.List.{List, [], _∷_, _++_, List·Memᴰ, List·Memᴰ·head, List·Memᴰ·not-nil}
+use mathlib.Core.Logic.{_⊎_, inl, inr}
+use native.Mathlib.Omega.{arith}
+use lib.Dec.{leb, ltb, eqb}
+use lib.ListN.{length, take, drop}
+use lib.Seq.{take-at, drop-at}
+use borrow.Author.Tests.{leb-true, leb-false, le-leb, lt-leb, ltb-true, ltb-false, eqb-true}
+use Rattle.maps.specs.Lists.{mem, keep, below}
+use Rattle.maps.specs.Label.{Label}
+use Rattle.maps.specs.Sheet.{Sheet, node, size, isLogic}
+use Rattle.maps.specs.Cut.{FittingCut, logicNode, cut, fittingCuts}
+use Rattle.maps.specs.Legal.{Legal, CarryingCut, NoneLegal}
+use Rattle.maps.specs.Least.{at, Labels, late, least, leastLabels, Answer, none, some}
+use Rattle.maps.specs.Cover.{Used, used, chosenCut}
+use Rattle.maps.specs.Plan.{plan}
+use Rattle.maps.specs.Read.{Parsed, sheet, refused, parse}
+use Rattle.maps.specs.WellFormed.{WellFormed}
+use Rattle.maps.specs.Outcome.{Outcome, accepted, refusal, within, timed, cutless, covered, outcome, outcomeNumber, outcomePlace, bufferAfter}
+use Rattle.maps.proofs.Over.{and-true}
+use Rattle.maps.proofs.Member.{keep-in, below-in, keep-append}
+use Rattle.maps.proofs.Enumerate.{clash, complete, sound}
+use Rattle.maps.proofs.Chosen.{chosen-is}
+use Rattle.maps.proofs.UsedNodes.{used-in, used-complete, used-sound}
+use Rattle.maps.proofs.Fix.{is-least, is-late}
+use Rattle.maps.proofs.Parse.{parse-well}
+use Rattle.maps.proofs.Planned.{ordered, read-least-right, latency-least}
+use Rattle.customer.specs.Demands.{AllCut, LowestCutless, LeastLabels, Ground, unread, uncut, tooLate, tooShort, planned, Covers, Demand-1, Planned, Demand-2, LeastPlan, Demand-3}
+use Rattle.planner.specs.Call.{Answered}
+use Rattle.planner.proofs.Drafts.{legal-carries, refused-outcome, sheet-outcome}
+use Rattle.customer.proofs.Grounds.{parse-grounds}
+
+-- the ground of an outcome
+abbrev pub GroundOf : (bytes : List ℕ) → (room : ℕ) → Type 0
+GroundOf bytes room = Ground bytes room (outcomeNumber (outcome bytes room)) (outcomePlace (outcome bytes room))
+
+parts : {o q : Outcome} → o ≡ q → (outcomeNumber o ≡ outcomeNumber q) × (outcomePlace o ≡ outcomePlace q)
+parts e = (ap outcomeNumber e, ap outcomePlace e)
+
+-- ---- the lowest number that passes a test
+
+-- a number below n that passes is kept
+kept-fails : (p : ℕ → Bool) (n u : ℕ) → u < n → keep p (below n) ≡ [] → p u ≡ false
+kept-fails p n u l e = go (p u) refl
+  where
+    go : (b : Bool) → p u ≡ b → p u ≡ false
+    go true q = absurd (List·Memᴰ·not-nil (subst (List·Memᴰ u) e (keep-in p (below-in n u l) q)))
+    go false q = q
+
+record First (p : ℕ → Bool) (n v : ℕ) : Type 0 where
+  in-range : v < n
+  passes : p v ≡ true
+  lower : (u : ℕ) → u < v → p u ≡ false
+
+first-kept : (p : ℕ → Bool) (n v : ℕ) (vs : List ℕ) → keep p (below n) ≡ v ∷ vs → First p n v
+first-kept p zero v vs e = let z : _≡_ {A = ℕ} 0 1 = cc in absurd (omega arith)
+first-kept p (suc n) v vs e = go (keep p (below n)) refl (first-kept p n) (sym (keep-append p (below n) (n ∷ [])) ∙ e)
+  where
+    last : keep p (below n) ≡ [] → (b : Bool) → p n ≡ b → cond b (n ∷ []) [] ≡ v ∷ vs → First p (suc n) v
+    last q true t f =
+        let z : n ≡ v = cc in
+        subst (First p (suc n)) z (record { in-range = omega arith; passes = t; lower = λ u l. kept-fails p n u l q })
+    last q false t f = let z : _≡_ {A = ℕ} 0 1 = cc in absurd (omega arith)
+
+    go : (xs : List ℕ) → keep p (below n) ≡ xs → ((v : ℕ) (vs : List ℕ) → keep p (below n) ≡ v ∷ vs → First p n v)
+        → xs ++ keep p (n ∷ []) ≡ v ∷ vs → First p (suc n) v
+    go [] q rec f = last q (p n) refl f
+    go (x ∷ xs) q rec f =
+        let r = rec x xs q in
+        let z : x ≡ v = cc in
+        subst (First p (suc n)) z (record { in-range = omega (arith, r .in-range); passes = r .passes; lower = r .lower })
+
+-- ---- ground 6
+
+-- the test of ground 6
+abbrev lacks : Sheet → ℕ → Bool
+lacks S v = isLogic (node S v .kind) && eqb (length (fittingCuts S v)) 0
+
+module _ (S : Sheet) (well : WellFormed S) where
+  lacks-none : (v : ℕ) → lacks S v ≡ true → (c : List ℕ) → FittingCut S v c → ⊥
+  lacks-none v e c f = go (fittingCuts S v) refl (eqb-true _ _ (and-true (logicNode S v) _ e .1))
+    where
+      member : List·Memᴰ (cut S (f .cone)) (fittingCuts S v)
+      member = complete S (ordered S well) v (f .cone) (f .isCone) (let q = ap length (f .isCut) in let few = f .fits in omega arith)
+
+      go : (cs : List (List ℕ)) → fittingCuts S v ≡ cs → length cs ≡ 0 → ⊥
+      go [] q z = List·Memᴰ·not-nil (subst (List·Memᴰ (cut S (f .cone))) q member)
+      go (x ∷ xs) q z = omega arith
+
+  has-some : (v : ℕ) → logicNode S v ≡ true → lacks S v ≡ false → (c : List ℕ) × FittingCut S v c
+  has-some v i e = go (fittingCuts S v) refl
+    where
+      go : (cs : List (List ℕ)) → fittingCuts S v ≡ cs → (c : List ℕ) × FittingCut S v c
+      go [] q = let t : lacks S v ≡ true = rw (i, q) in clash (sym e ∙ t)
+      go (x ∷ xs) q =
+          let k = sound S v i x (subst (List·Memᴰ x) (sym q) (List·Memᴰ·head refl)) in
+          (x, record { cone = k .0; isCone = k .1; isCut = k .3; fits = k .2 })
+
+  -- no id is listed, or the lowest is the first
+  all-cut : cutless S ≡ [] → AllCut S
+  all-cut e v l i = has-some v i (kept-fails (lacks S) (size S) v l e)
+
+  lowest-cutless : (v : ℕ) (vs : List ℕ) → cutless S ≡ v ∷ vs → LowestCutless S v
+  lowest-cutless v vs e =
+      let f = first-kept (lacks S) (size S) v vs e in
+      record {
+        node = f .in-range;
+        isLogic = and-true (logicNode S v) _ (f .passes) .0;
+        none = lacks-none v (f .passes);
+        lowest = λ u l i. has-some u i (f .lower u l);
+      }
+
+  none-cutless : AllCut S → cutless S ≡ []
+  none-cutless a = go (cutless S) refl
+    where
+      go : (vs : List ℕ) → cutless S ≡ vs → cutless S ≡ []
+      go [] e = e
+      go (v ∷ vs) e =
+          let h = lowest-cutless v vs e in
+          let k = a v (h .node) (h .isLogic) in
+          absurd (h .none (k .0) (k .1))
+
+  one-lowest : (v w : ℕ) → LowestCutless S v → LowestCutless S w → v ≡ w
+  one-lowest v w a b = go (ltb v w) (ltb w v) refl refl
+    where
+      not-below : (v w : ℕ) → LowestCutless S v → LowestCutless S w → v < w → ⊥
+      not-below v w a b l = let k = b .lowest v l (a .isLogic) in a .none (k .0) (k .1)
+
+      go : (x y : Bool) → ltb v w ≡ x → ltb w v ≡ y → v ≡ w
+      go true y p q = absurd (not-below v w a b (ltb-true v w p))
+      go false true p q = absurd (not-below w v b a (ltb-true w v q))
+      go false false p q = omega (arith, ltb-false v w p, ltb-false w v q)
+
+-- ---- labels, marks and leaves
+
+module _ (S : Sheet) (well : WellFormed S) (L : List Label) (ok : Legal S (at L) (S .horizon)) where
+  carrying : (v : ℕ) → v < size S → logicNode S v ≡ true → CarryingCut S (at L) v
+  carrying = legal-carries S (at L) (S .horizon) ok
+
+  marks : (v : ℕ) → Used S (at L) v → mem v (used S L) ≡ true
+  marks = used-complete S (ordered S well) L
+
+  covers : Covers S L
+  covers =
+      record {
+        marked = marks;
+        markedOnly = used-sound S (ordered S well) L carrying;
+        chosen = λ v u i.
+            rw (marks v u, i) (chosen-is S (ordered S well) L v i (carrying v (used-in S (ordered S well) L v (marks v u)) i));
+        leafless = λ v n. go v n (mem v (used S L)) (logicNode S v) refl refl;
+      }
+    where
+      go : (v : ℕ) → (Used S (at L) v → logicNode S v ≡ true → ⊥) → (x y : Bool) → mem v (used S L) ≡ x → logicNode S v ≡ y → cond (x && y) (chosenCut S L v) [] ≡ []
+      go v n true true p q = absurd (n (used-sound S (ordered S well) L carrying v p) q)
+      go v n true false p q = refl
+      go v n false y p q = refl
+
+-- ---- the outcome of a sheet in which each logic node has a fitting cut
+
+module _ (bytes : List ℕ) (S : Sheet) (e : parse bytes ≡ sheet S) (a : AllCut S) where
+  none-lacks : cutless S ≡ []
+  none-lacks = none-cutless S (parse-well bytes S e) a
+
+  answer : Answer S (leastLabels S)
+  answer = read-least-right bytes S e none-lacks
+
+  timed-outcome : (room : ℕ) → outcome bytes room ≡ timed S room (leastLabels S)
+  timed-outcome room = sheet-outcome bytes S e room ∙ ap (covered S room) none-lacks
+
+  late-outcome : NoneLegal S → (room : ℕ) → outcome bytes room ≡ refusal 7 0
+  late-outcome n room = timed-outcome room ∙ ap (timed S room) (is-late S answer n)
+
+  least-outcome : (L : List Label) → LeastLabels S L → (room : ℕ) → outcome bytes room ≡ within room (plan S L)
+  least-outcome L h room = timed-outcome room ∙ ap (timed S room) (is-least S answer L (h .sized) (h .isLeast))
+
+  -- nothing is legal within H, or there are least labels
+  found : NoneLegal S ⊎ ((L : List Label) × LeastLabels S L)
+  found = go answer
+    where
+      go : {r : Labels} → Answer S r → NoneLegal S ⊎ ((L : List Label) × LeastLabels S L)
+      go (none h) = inl h
+      go (some {L} n h) = inr (L, record { sized = n; isLeast = h })
+
+  in-room : (L : List Label) → LeastLabels S L → (room : ℕ) → length (plan S L) ≤ room → outcome bytes room ≡ accepted (plan S L)
+  in-room L h room l = least-outcome L h room ∙ rw (le-leb (length (plan S L)) room l)
+
+  no-room : (L : List Label) → LeastLabels S L → (room : ℕ) → room < length (plan S L) → outcome bytes room ≡ refusal 8 (length (plan S L))
+  no-room L h room l = least-outcome L h room ∙ rw (lt-leb (length (plan S L)) room l)
+
+  -- its ground
+  timed-ground : (room : ℕ) → GroundOf bytes room
+  timed-ground room = go found
+    where
+      fits : (L : List Label) → LeastLabels S L → (t : Bool) → leb (length (plan S L)) room ≡ t → GroundOf bytes room
+      fits L h true q = let l = leb-true (length (plan S L)) room q in rw (in-room L h room l) (planned S L e a h l)
+      fits L h false q = let l = leb-false (length (plan S L)) room q in rw (no-room L h room l) (tooShort S L e a h l)
+
+      go : NoneLegal S ⊎ ((L : List Label) × LeastLabels S L) → GroundOf bytes room
+      go (inl n) = rw (late-outcome n room) (tooLate S e a n)
+      go (inr h) = fits (h .0) (h .1) (leb (length (plan S (h .0))) room) refl
+
+-- ---- any bytes
+
+module _ (bytes : List ℕ) (room : ℕ) where
+  pub ground-of : GroundOf bytes room
+  ground-of = go (parse bytes) refl
+    where
+      cuts : (S : Sheet) → parse bytes ≡ sheet S → (vs : List ℕ) → cutless S ≡ vs → GroundOf bytes room
+      cuts S e [] q = timed-ground bytes S e (all-cut S (parse-well bytes S e) q) room
+      cuts S e (v ∷ vs) q = rw (sheet-outcome bytes S e room ∙ ap (covered S room) q) (uncut S v e (lowest-cutless S (parse-well bytes S e) v vs q))
+
+      go : (r : Parsed) → parse bytes ≡ r → GroundOf bytes room
+      go (sheet S) e = cuts S e (cutless S) refl
+      go (refused k p) e = rw (refused-outcome bytes k p e room) (unread k p e)
+
+  said : {k p : ℕ} → Ground bytes room k p → (outcomeNumber (outcome bytes room) ≡ k) × (outcomePlace (outcome bytes room) ≡ p)
+  said (unread k p e) = parts (refused-outcome bytes k p e room)
+  said (uncut S v e h) = parts (sheet-outcome bytes S e room ∙ go (cutless S) refl)
+    where
+      go : (vs : List ℕ) → cutless S ≡ vs → covered S room vs ≡ refusal 6 v
+      go [] q = let k = all-cut S (parse-well bytes S e) q v (h .node) (h .isLogic) in absurd (h .none (k .0) (k .1))
+      go (w ∷ ws) q = ap (refusal 6) (sym (one-lowest S (parse-well bytes S e) v w h (lowest-cutless S (parse-well bytes S e) w ws q)))
+  said (tooLate S e a n) = parts (late-outcome bytes S e a n room)
+  said (tooShort S L e a h l) = parts (no-room bytes S e a L h room l)
+  said (planned S L e a h l) = parts (in-room bytes S e a L h room l)
+
+-- ---- an answer that is the outcome's
+
+module _ (bytes buffer : List ℕ) (number place : ℕ) (after : List ℕ) (is : Answered (outcome bytes (length buffer)) number place buffer after) where
+  pub demand-1 : Demand-1 bytes buffer number place after
+  demand-1 =
+      record {
+        holds = rw (is .0, is .1) (ground-of bytes (length buffer));
+        said = λ k p g. let h = said bytes (length buffer) g in (is .0 ∙ h .0, is .1 ∙ h .1);
+        malformed = parse-grounds bytes;
+        untouched = λ n. is .2 ∙ go (outcome bytes (length buffer)) (λ z. n (is .0 ∙ z));
+      }
+    where
+      go : (o : Outcome) → (outcomeNumber o ≡ 0 → ⊥) → bufferAfter o buffer ≡ buffer
+      go (accepted p) n = absurd (n refl)
+      go (refusal k p) n = refl
+
+  -- an accepted plan stands at the front of the buffer
+  module _ (p : List ℕ) (e : outcome bytes (length buffer) ≡ accepted p) where
+    counted : place ≡ length p
+    counted = is .1 ∙ ap outcomePlace e
+
+    stored : after ≡ p ++ drop (length p) buffer
+    stored = is .2 ∙ ap (λ (o : Outcome). bufferAfter o buffer) e
+
+    front : take place after ≡ p
+    front = ap (take place) stored ∙ take-at p (drop (length p) buffer) place (sym counted)
+
+    back : drop place after ≡ drop place buffer
+    back = ap (drop place) stored ∙ drop-at p (drop (length p) buffer) place (sym counted) ∙ ap (λ (n : ℕ). drop n buffer) (sym counted)
+
+  pub demand-2 : Demand-2 bytes buffer number place after
+  demand-2 z = go (ground-of bytes (length buffer)) (sym (is .0) ∙ z)
+    where
+      go : {k p : ℕ} → Ground bytes (length buffer) k p → k ≡ 0 → Planned bytes buffer number place after
+      go (unread k p f) q = absurd (omega (arith, parse-grounds bytes k p f .0))
+      go (uncut S v f h) q = absurd (omega arith)
+      go (tooLate S f a n) q = absurd (omega arith)
+      go (tooShort S L f a h l) q = absurd (omega arith)
+      go (planned S L f a h l) q =
+          let e = in-room bytes S f a L h (length buffer) l in
+          record {
+            held = S;
+            reads = f;
+            labels = L;
+            sized = h .sized;
+            legal = h .isLeast .legal;
+            covers = covers S (parse-well bytes S f) L (h .isLeast .legal);
+            counted = counted (plan S L) e;
+            fits = omega (arith, counted (plan S L) e);
+            written = front (plan S L) e;
+            kept = back (plan S L) e;
+          }
+
+  pub demand-3 : Demand-3 bytes buffer number place after
+  demand-3 S e a =
+      record {
+        late = λ n. is .0 ∙ ap outcomeNumber (late-outcome bytes S e a n room);
+        lateOnly = λ q. only q (found bytes S e a);
+        otherwise = λ q. rest q (found bytes S e a);
+      }
+    where
+      room : ℕ
+      room = length buffer
+
+      fits-or : (L : List Label) → LeastLabels S L → (t : Bool) → leb (length (plan S L)) room ≡ t
+          → ((number ≡ 0) ⊎ (number ≡ 8)) × (place ≡ length (plan S L)) × (number ≡ 0 → take place after ≡ plan S L)
+      fits-or L h true q =
+          let o = in-room bytes S e a L h room (leb-true (length (plan S L)) room q) in
+          (inl (is .0 ∙ ap outcomeNumber o), is .1 ∙ ap outcomePlace o, λ z. front (plan S L) o)
+      fits-or L h false q =
+          let o = no-room bytes S e a L h room (leb-false (length (plan S L)) room q) in
+          (inr (is .0 ∙ ap outcomeNumber o), is .1 ∙ ap outcomePlace o, λ z. absurd (omega (arith, is .0, ap outcomeNumber o)))
+
+      not-late : (number ≡ 0) ⊎ (number ≡ 8) → number ≡ 7 → ⊥
+      not-late (inl z) q = omega arith
+      not-late (inr z) q = omega arith
+
+      only : number ≡ 7 → NoneLegal S ⊎ ((L : List Label) × LeastLabels S L) → NoneLegal S
+      only q (inl n) = n
+      only q (inr h) = absurd (not-late (fits-or (h .0) (h .1) (leb (length (plan S (h .0))) room) refl .0) q)
+
+      rest : (number ≡ 7 → ⊥) → NoneLegal S ⊎ ((L : List Label) × LeastLabels S L) → LeastPlan bytes buffer number place after S
+      rest q (inl n) = absurd (q (is .0 ∙ ap outcomeNumber (late-outcome bytes S e a n room)))
+      rest q (inr h) =
+          let f = fits-or (h .0) (h .1) (leb (length (plan S (h .0))) room) refl in
+          record {
+            labels = h .0;
+            least = h .1;
+            latency = latency-least S (S .horizon) (at (h .0)) (h .1 .isLeast);
+            covers = covers S (parse-well bytes S e) (h .0) (h .1 .isLeast .legal);
+            answered = f .0;
+            counted = f .1;
+            written = f .2;
+          }

@@ -1,0 +1,4 @@
+pub mod Grounds
+pub mod Demands
+pub mod Bounds
+pub mod Reading

@@ -1,0 +1,109 @@
+-- The customer's three demands, of one planning call: the sheet's bytes, the buffer as it was lent and as it is after the call, and the number
+-- and place that are answered. That every call ends is part of every proof.
+use Prim.Native.Nat.{ℕ, _≤_, _<_}
+use mathlib.Core.Path.{_≡_}
+use mathlib.Core.Bool.{true}
+use mathlib.Core.List.{List, []}
+use mathlib.Core.Logic.{_⊎_}
+use lib.ListN.{length, take, drop}
+use Rattle.maps.specs.Lists.{mem}
+use Rattle.maps.specs.Label.{Label}
+use Rattle.maps.specs.Sheet.{Sheet, size}
+use Rattle.maps.specs.Cut.{FittingCut, logicNode}
+use Rattle.maps.specs.Legal.{Legal, NoneLegal, Least, latencyOfAll}
+use Rattle.maps.specs.Least.{at}
+use Rattle.maps.specs.Cover.{Chosen, Used, used}
+use Rattle.maps.specs.Plan.{leavesOf, plan}
+use Rattle.maps.specs.Read.{sheet, refused, parse}
+
+-- each logic node has a fitting cut
+abbrev pub AllCut : Sheet → Type 0
+AllCut S = (v : ℕ) → v < size S → logicNode S v ≡ true → (c : List ℕ) × FittingCut S v c
+
+-- "a logic node has no fitting cut; place: the lowest such id"
+pub record LowestCutless (S : Sheet) (v : ℕ) : Type 0 where
+  pub node : v < size S
+  pub isLogic : logicNode S v ≡ true
+  pub none : (c : List ℕ) → FittingCut S v c → ⊥
+  pub lowest : (u : ℕ) → u < v → logicNode S u ≡ true → (c : List ℕ) × FittingCut S u c
+
+-- one label for each node, and they are "the least legal ones"
+pub record LeastLabels (S : Sheet) (L : List Label) : Type 0 where
+  pub sized : length L ≡ size S
+  pub isLeast : Least S (S .horizon) (at L)
+
+-- "the number and place of the papers": what holds of the sheet, and of a buffer of `room` bytes, where they are answered
+pub data Ground (bytes : List ℕ) (room : ℕ) : (number place : ℕ) → Type 0 where
+  -- "Every malformed sheet": 1 to 5
+  unread : (k p : ℕ) → parse bytes ≡ refused k p → Ground bytes room k p
+  -- "every logic node without a fitting cut"
+  uncut : (S : Sheet) (v : ℕ) → parse bytes ≡ sheet S → LowestCutless S v → Ground bytes room 6 v
+  -- "every sheet without legal labels"
+  tooLate : (S : Sheet) → parse bytes ≡ sheet S → AllCut S → NoneLegal S → Ground bytes room 7 0
+  -- "every short buffer"
+  tooShort : (S : Sheet) (L : List Label) → parse bytes ≡ sheet S → AllCut S → LeastLabels S L → room < length (plan S L)
+      → Ground bytes room 8 (length (plan S L))
+  -- "Every other sheet is planned"
+  planned : (S : Sheet) (L : List Label) → parse bytes ≡ sheet S → AllCut S → LeastLabels S L → length (plan S L) ≤ room
+      → Ground bytes room 0 (length (plan S L))
+
+-- the marks and leaves of the plan of labels L: a node is marked exactly if it is used, a used logic node has its chosen cut, and any other
+-- node no leaf
+pub record Covers (S : Sheet) (L : List Label) : Type 0 where
+  pub marked : (v : ℕ) → Used S (at L) v → mem v (used S L) ≡ true
+  pub markedOnly : (v : ℕ) → mem v (used S L) ≡ true → Used S (at L) v
+  pub chosen : (v : ℕ) → Used S (at L) v → logicNode S v ≡ true → Chosen S (at L) v (leavesOf S L (used S L) v)
+  pub leafless : (v : ℕ) → (Used S (at L) v → logicNode S v ≡ true → ⊥) → leavesOf S L (used S L) v ≡ []
+
+module _ (bytes buffer : List ℕ) (number place : ℕ) (after : List ℕ) where
+  -- "1. Every malformed sheet, every logic node without a fitting cut, every sheet without legal labels and every short buffer is refused with
+  -- the number and place of the papers, and no lent byte changes. Every other sheet is planned; every call ends."
+  -- What is answered holds, whatever holds is answered, a malformed sheet has a number from 1 to 5, and any number but 0 leaves the buffer as it
+  -- was.
+  pub record Demand-1 : Type 0 where
+    pub holds : Ground bytes (length buffer) number place
+    pub said : (k p : ℕ) → Ground bytes (length buffer) k p → (number ≡ k) × (place ≡ p)
+    pub malformed : (k p : ℕ) → parse bytes ≡ refused k p → (1 ≤ k) × (k ≤ 5)
+    pub untouched : (number ≡ 0 → ⊥) → after ≡ buffer
+
+  -- the first `place` bytes of the buffer are the plan of labels that are legal within H, with their latency, the used nodes and the chosen cuts;
+  -- the other bytes are as they were
+  pub record Planned : Type 0 where
+    pub held : Sheet
+    pub reads : parse bytes ≡ sheet held
+    pub labels : List Label
+    pub sized : length labels ≡ size held
+    pub legal : Legal held (at labels) (held .horizon)
+    pub covers : Covers held labels
+    pub counted : place ≡ length (plan held labels)
+    pub fits : place ≤ length buffer
+    pub written : take place after ≡ plan held labels
+    pub kept : drop place after ≡ drop place buffer
+
+  -- "2. Labels, latency, used nodes and cuts of every plan obey the MAPS conditions of document 01, and its bytes are exactly the ones laid down
+  -- there."
+  abbrev pub Demand-2 : Type 0
+  Demand-2 = number ≡ 0 → Planned
+
+  -- "the labels written are legal and at every node no later than in any other legal labelling of any horizon, the latency likewise; and each used
+  -- table has a cut of at most K leaves that carries its label, with as few leaves as any such cut": where the number is 0, of the bytes written;
+  -- where it is 8, of the plan whose length is the place
+  pub record LeastPlan (S : Sheet) : Type 0 where
+    pub labels : List Label
+    pub least : LeastLabels S labels
+    pub latency : (M : ℕ → Label) (G : ℕ) → Legal S M G → latencyOfAll S (at labels) ≤ latencyOfAll S M
+    pub covers : Covers S labels
+    pub answered : (number ≡ 0) ⊎ (number ≡ 8)
+    pub counted : place ≡ length (plan S labels)
+    pub written : number ≡ 0 → take place after ≡ plan S labels
+
+  -- "refused for time exactly when no legal labelling lies within its horizon. Otherwise .."
+  pub record InTime (S : Sheet) : Type 0 where
+    pub late : NoneLegal S → number ≡ 7
+    pub lateOnly : number ≡ 7 → NoneLegal S
+    pub otherwise : (number ≡ 7 → ⊥) → LeastPlan S
+
+  -- "3. A sheet that reads and whose logic nodes all have a fitting cut (all such cuts counting, however many) is refused for time exactly when no
+  -- legal labelling lies within its horizon. Otherwise .."
+  abbrev pub Demand-3 : Type 0
+  Demand-3 = (S : Sheet) → parse bytes ≡ sheet S → AllCut S → InTime S

@@ -1,0 +1,108 @@
+-- Which nodes are held in their step, over the tables; what the marks of held nodes mean, and what the functions on them answer.
+use Prim.Native.Nat.{ℕ, _+_, _≤_, _<_}
+use mathlib.Core.Path.{_≡_}
+use mathlib.Core.Bool.{Bool, true, false, not}
+use mathlib.Core.List.{List}
+use lib.Dec.{eqb}
+use lib.ListN.{length, getD, set}
+use Rattle.sheet.specs.Table.{countIn, operandIn, latencyIn, fromIn, toIn, plusIn, minusIn}
+use Rattle.cut.specs.Search.{zeros, Ends}
+
+-- the ready step of operand j of v is at most one step before v's
+abbrev pub Close : (graph steps : List ℕ) (v j : ℕ) → Type 0
+Close graph steps v j = getD steps v 0 ≤ getD steps (operandIn graph v j) 0 + latencyIn graph (operandIn graph v j) + 1
+
+-- difference i has no spare step
+abbrev pub Tight : (differences steps : List ℕ) (i : ℕ) → Type 0
+Tight differences steps i =
+    getD steps (toIn differences i) 0 + minusIn differences i ≤ getD steps (fromIn differences i) 0 + plusIn differences i
+
+-- the least held set of n nodes and m differences: a node of step 0, and a node that a held operand or a held difference leaves no spare
+-- step; nothing else. It is `Held` of the sheet in the tables (`held-in`, `in-held`)
+pub data HeldIn (graph differences steps : List ℕ) (n m : ℕ) : ℕ → Type 0 where
+  zero-in : (v : ℕ) → v < n → getD steps v 0 ≡ 0 → HeldIn graph differences steps n m v
+  operand-in : (v j : ℕ) → v < n → j < countIn graph v → HeldIn graph differences steps n m (operandIn graph v j) → Close graph steps v j → HeldIn graph differences steps n m v
+  target-in : (i : ℕ) → i < m → HeldIn graph differences steps n m (fromIn differences i) → Tight differences steps i → HeldIn graph differences steps n m (toIn differences i)
+
+-- some node floats: it is held by nothing; or every node is held
+abbrev pub Floats : (graph differences steps : List ℕ) (n m : ℕ) → Bool → Type 0
+Floats graph differences steps n m r =
+    Ends r ((v : ℕ) × (v < n) × (HeldIn graph differences steps n m v → ⊥)) ((v : ℕ) → v < n → HeldIn graph differences steps n m v)
+
+-- v is marked
+abbrev pub heldIn : List ℕ → ℕ → Bool
+heldIn held v = not (eqb (getD held v 0) 0)
+
+-- every marked node is held
+abbrev pub OnlyHeld : (graph differences steps held : List ℕ) (n m : ℕ) → Type 0
+OnlyHeld graph differences steps held n m = (v : ℕ) → heldIn held v ≡ true → HeldIn graph differences steps n m v
+
+-- of n nodes those of step 0 are marked, and no other
+pub record HeldZero (steps held : List ℕ) (n : ℕ) : Type 0 where
+  pub wide : length held ≡ 256
+  pub zero-held : (v : ℕ) → v < n → getD steps v 0 ≡ 0 → heldIn held v ≡ true
+  pub only : (v : ℕ) → heldIn held v ≡ true → (v < n) × (getD steps v 0 ≡ 0)
+
+-- what was marked still is
+pub record More (held more : List ℕ) : Type 0 where
+  pub wide : length more ≡ length held
+  pub still : (v : ℕ) → heldIn held v ≡ true → heldIn more v ≡ true
+  pub fewer : zeros more ≤ zeros held
+
+-- operand j of v is marked and holds v
+pub record Near (graph steps held : List ℕ) (v j : ℕ) : Type 0 where
+  pub holds : heldIn held (operandIn graph v j) ≡ true
+  pub close : Close graph steps v j
+
+-- a marked operand holds v, or none does
+abbrev pub ByOperand : (graph steps held : List ℕ) (v : ℕ) → Bool → Type 0
+ByOperand graph steps held v r =
+    Ends r ((j : ℕ) × (j < countIn graph v) × Near graph steps held v j) ((j : ℕ) → j < countIn graph v → Near graph steps held v j → ⊥)
+
+-- v is marked where a marked operand holds it, and nothing else changes
+pub record NodeHeld (graph steps held more : List ℕ) (v : ℕ) : Type 0 where
+  pub some : Bool
+  pub by : ByOperand graph steps held v some
+  pub marks : Ends some (more ≡ set held v 1) (more ≡ held)
+
+-- what an operand of v holds is marked
+abbrev pub HeldOperands : (graph steps held : List ℕ) → ℕ → Type 0
+HeldOperands graph steps held v = (j : ℕ) → j < countIn graph v → Near graph steps held v j → heldIn held v ≡ true
+
+-- of n nodes the first v have had their turn: what an operand of theirs holds is marked, and only what is held is marked since
+pub record NodesHeld (graph steps held more : List ℕ) (n v : ℕ) : Type 0 where
+  pub grown : More held more
+  pub operands : (u : ℕ) → u < v → HeldOperands graph steps more u
+  pub only : (differences : List ℕ) (m : ℕ) → OnlyHeld graph differences steps held n m → OnlyHeld graph differences steps more n m
+
+-- what difference i holds is marked
+abbrev pub HeldDifference : (differences steps held : List ℕ) → ℕ → Type 0
+HeldDifference differences steps held i =
+    heldIn held (fromIn differences i) ≡ true → Tight differences steps i → heldIn held (toIn differences i) ≡ true
+
+-- difference i holds its target, which is not marked
+pub record Fresh (differences steps held : List ℕ) (i : ℕ) : Type 0 where
+  pub holds : heldIn held (fromIn differences i) ≡ true
+  pub tight : Tight differences steps i
+  pub fresh : heldIn held (toIn differences i) ≡ false
+
+-- the target of difference i is marked anew, or nothing changes since what the difference holds is marked
+abbrev pub TargetHeld : (differences steps held more : List ℕ) (i : ℕ) → Bool → Type 0
+TargetHeld differences steps held more i r =
+    Ends r (Fresh differences steps held i × (more ≡ set held (toIn differences i) 1)) (HeldDifference differences steps held i × (more ≡ held))
+
+-- something new is marked, or the marks are as they were
+abbrev pub Marked : (held more : List ℕ) → Bool → Type 0
+Marked held more true = More held more × (zeros more < zeros held)
+Marked held more false = more ≡ held
+
+-- of m differences the first i have had their turn: r tells whether something is marked since; only what is held is; and where nothing is,
+-- these differences hold nothing more
+pub record Swept (differences steps held more : List ℕ) (m i : ℕ) (r : Bool) : Type 0 where
+  pub marked : Marked held more r
+  pub closed : r ≡ false → (k : ℕ) → k < i → HeldDifference differences steps more k
+  pub only : (graph : List ℕ) (n : ℕ) → OnlyHeld graph differences steps held n m → OnlyHeld graph differences steps more n m
+
+-- each of n nodes is marked, or one is not
+abbrev pub AllMarked : (held : List ℕ) (n : ℕ) → Bool → Type 0
+AllMarked held n r = Ends r ((v : ℕ) → v < n → heldIn held v ≡ true) ((v : ℕ) × (v < n) × (heldIn held v ≡ false))

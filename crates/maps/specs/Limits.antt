@@ -1,0 +1,64 @@
+-- Document 01, "The sheet": its limits, each said once. Whatever depends on a limit cites it here by its name.
+use Prim.Native.Nat.{ℕ, zero, suc, _+_, _-_}
+
+-- the values from low to high
+pub record Range : Type 0 where
+  pub low : ℕ
+  pub high : ℕ
+
+abbrev pub range : ℕ → ℕ → Range
+range l h = record { low = l; high = h }
+
+-- "K (2 to 6), T (1 to 64), H (0 to 4,095), n (1 to 256), m (0 to 1,024)"
+abbrev pub leavesRange : Range
+leavesRange = range 2 6
+
+abbrev pub topRange : Range
+topRange = range 1 64
+
+abbrev pub horizonRange : Range
+horizonRange = range 0 4095
+
+abbrev pub sizeRange : Range
+sizeRange = range 1 256
+
+abbrev pub countRange : Range
+countRange = range 0 1024
+
+-- "kind (0 input, 1 logic, 2 box), output mark (0 or 1)"
+abbrev pub kindRange : Range
+kindRange = range 0 2
+
+abbrev pub markRange : Range
+markRange = range 0 1
+
+-- "u and v, each an id from 0 to n − 1"
+abbrev pub idRange : (size : ℕ) → Range
+idRange n = range 0 (n - 1)
+
+-- "w lies in −4,095 to 4,095"
+abbrev pub weightMost : ℕ
+weightMost = 4095
+
+-- "coded as 2w if w ≥ 0, otherwise −2w − 1"
+abbrev pub weightRange : Range
+weightRange = range 0 (weightMost + weightMost)
+
+-- the most operands of a node, and the greatest lat
+abbrev pub operandsMost : ℕ
+operandsMost = 6
+
+abbrev pub latencyMost : ℕ
+latencyMost = 255
+
+-- the table: d, lat and operands of a node
+pub record Ranges : Type 0 where
+  pub delay : Range
+  pub latency : Range
+  pub operands : Range
+
+-- by kind: 0 (input), 1 (logic), 2 (box)
+abbrev pub rangesOf : (top kind : ℕ) → Ranges
+rangesOf top zero = record { delay = range 0 0; latency = range 0 0; operands = range 0 0 }
+rangesOf top (suc zero) = record { delay = range 1 top; latency = range 0 0; operands = range 1 operandsMost }
+rangesOf top (suc (suc k)) = record { delay = range 0 top; latency = range 0 latencyMost; operands = range 0 operandsMost }

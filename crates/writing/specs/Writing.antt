@@ -1,0 +1,25 @@
+-- What stands in a buffer after a write, and what a row's numbers must be for their bytes.
+use Prim.Native.Nat.{ℕ, _+_, _≤_, _<_}
+use mathlib.Core.Path.{_≡_}
+use mathlib.Core.List.{List, _++_}
+use lib.ListN.{length, getD, take}
+use Rattle.maps.specs.Limits.{leavesRange}
+use Rattle.maps.specs.Lists.{All}
+use Rattle.maps.specs.Number.{values}
+use Rattle.bound.specs.Lookup.{countOf}
+use Rattle.cover.specs.Cover.{rowOf}
+
+-- xs, at most `most` bytes, stand from `at` to `next` behind what stood before them
+pub record Put (most : ℕ) (before after : List ℕ) (at next : ℕ) (xs : List ℕ) : Type 0 where
+  pub end : next ≡ at + length xs
+  pub near : next ≤ at + most
+  pub wide : length after ≡ length before
+  pub front : take next after ≡ take at before ++ xs
+
+-- two bytes spell each number of the row of v
+pub record Writable (steps levels marks cuts : List ℕ) (v : ℕ) : Type 0 where
+  pub step : getD steps v 0 < values
+  pub level : getD levels v 0 < values
+  pub bit : getD marks v 0 ≤ 1
+  pub few : countOf cuts v ≤ leavesRange .high
+  pub ids : All (λ u. u < 256) (rowOf cuts v)

@@ -1,0 +1,35 @@
+//! The ranges of document 01's section "The sheet", each from its least to its greatest value, for the tests' own reader and for
+//! the test of each limit.
+
+/// From the least to the greatest value.
+pub type Range = (u32, u32);
+
+pub const K: Range = (2, 6);
+pub const T: Range = (1, 64);
+pub const H: Range = (0, 4_095);
+pub const N: Range = (1, 256);
+pub const M: Range = (0, 1_024);
+pub const KIND: Range = (0, 2);
+pub const MARK: Range = (0, 1);
+/// w lies in −W to W.
+pub const W: u32 = 4_095;
+/// The code of w: 2w or −2w − 1.
+pub const CODE: Range = (0, 2 * W);
+/// The greatest number that has a spelling.
+pub const NUMBER: u32 = 16_383;
+
+/// The row of a kind in the table of fields: d, lat and the count of operands.
+pub struct Fields {
+    pub delay: Range,
+    pub latency: Range,
+    pub operands: Range,
+}
+
+/// The table of fields by kind, for a sheet whose T is `top`.
+pub const fn fields(kind: u32, top: u32) -> Fields {
+    match kind {
+        0 => Fields { delay: (0, 0), latency: (0, 0), operands: (0, 0) },
+        1 => Fields { delay: (1, top), latency: (0, 0), operands: (1, 6) },
+        _ => Fields { delay: (0, top), latency: (0, 255), operands: (0, 6) },
+    }
+}

@@ -1,0 +1,223 @@
+//! Every limit of document 01's section "The sheet", from both sides, through planning and through reading: a value inside is read, and one outside
+//! is refused at its own first byte. The sheets are whole: what follows a value outside its range is what a reader that takes it would go on to read.
+#![cfg(planner)]
+use maps_tests::library::{plan, read, PlanAnswer, ReadAnswer, Tables};
+use maps_tests::limits::{fields, Range, CODE, H, K, KIND, M, MARK, N, NUMBER, T};
+use maps_tests::made::{input, numbers, spelled, table};
+use maps_tests::reader::{Difference, Node, Sheet};
+
+/// Number and place, from planning and from reading alike.
+fn refused(name: &str, bytes: &[u8], number: u64, place: u64) {
+    let mut buffer = vec![0xa5; 5000];
+    assert_eq!(plan(bytes, &mut buffer), PlanAnswer { number, place }, "planning: {name}");
+    assert!(buffer.iter().all(|&byte| byte == 0xa5), "planning wrote: {name}");
+    let mut tables = Tables::filled_with(0xdead_beef);
+    assert_eq!(read(bytes, &mut tables), ReadAnswer { number, place }, "reading: {name}");
+    assert!(tables == Tables::filled_with(0xdead_beef), "reading wrote: {name}");
+}
+
+/// The sheet reads, and planning refuses it for none of grounds 1 to 5.
+fn taken(name: &str, bytes: &[u8]) {
+    let answer = plan(bytes, &mut vec![0; 5000]);
+    assert!([0, 6, 7].contains(&answer.number), "planning: {name}: {answer:?}");
+    let answer = read(bytes, &mut Tables::filled_with(0xdead_beef));
+    assert_eq!(answer, ReadAnswer { number: 0, place: 0 }, "reading: {name}");
+}
+
+/// Where the number at an index of a sheet has its first byte.
+fn place(numbers: &[u32], index: usize) -> u64 {
+    spelled(&numbers[..index]).len() as u64
+}
+
+/// The number at `index` is taken in this sheet.
+fn inside(name: &str, numbers: &[u32], index: usize) {
+    taken(&format!("{name} = {}", numbers[index]), &spelled(numbers));
+}
+
+/// The number at `index` is refused with `ground` in this sheet.
+fn outside(name: &str, numbers: &[u32], index: usize, ground: u64) {
+    refused(&format!("{name} = {}", numbers[index]), &spelled(numbers), ground, place(numbers, index));
+}
+
+/// Tries both ends of a range, and one past each, at an index of the sheet that `sheet` makes for a value.
+fn both_ends(name: &str, (low, high): Range, index: usize, sheet: impl Fn(u32) -> Vec<u32>) {
+    for value in [low, high] {
+        inside(name, &sheet(value), index);
+    }
+    for value in [high + 1, NUMBER] {
+        outside(name, &sheet(value), index, 3);
+    }
+    for value in 0..low {
+        outside(name, &sheet(value), index, 3);
+    }
+    assert_eq!([low, high + 1].map(|value| sheet(value)[index]), [low, high + 1], "{name} stands at {index}");
+}
+
+/// A sheet of `n` inputs and `m` differences that hold.
+fn plain(n: u32, m: u32) -> Sheet {
+    let differences = vec![Difference { from: 0, to: 0, weight: 0 }; m as usize];
+    Sheet { leaves: K.0, top: T.0, horizon: H.0, nodes: vec![input(); n as usize], differences }
+}
+
+#[test]
+fn header() {
+    let with = |index: usize| {
+        move |value: u32| {
+            let mut all = numbers(&plain(3, 2));
+            all[index] = value;
+            all
+        }
+    };
+    both_ends("K", K, 0, with(0));
+    both_ends("T", T, 1, with(1));
+    both_ends("H", H, 2, with(2));
+    // As many nodes and differences as the header says.
+    both_ends("n", N, 3, |n| numbers(&plain(n, 0)));
+    both_ends("m", M, 4, |m| numbers(&plain(2, m)));
+}
+
+/// The number of values in a sheet's header, and in a node before its operands.
+const HEADER: usize = 5;
+const HEAD: usize = 5;
+
+/// A sheet of 8 inputs below one node, with differences after it, and the index of the node's kind.
+fn with_node(top: u32, node: Node) -> (Vec<u32>, usize) {
+    let mut sheet = Sheet { top, ..plain(8, 2) };
+    sheet.nodes.push(node);
+    sheet.nodes.push(input());
+    (numbers(&sheet), HEADER + 8 * HEAD)
+}
+
+/// A node of a kind at the least of its ranges.
+fn least_of(kind: u32, top: u32) -> Node {
+    let fields = fields(kind, top);
+    Node { kind, output: false, delay: fields.delay.0, latency: fields.latency.0, operands: (0..fields.operands.0).collect() }
+}
+
+#[test]
+fn kind_and_mark() {
+    let index = HEADER + 8 * HEAD;
+    let with = |kind: u32, offset: usize, value: u32| {
+        let (mut all, index) = with_node(1, least_of(kind, 1));
+        all[index + offset] = value;
+        all
+    };
+    both_ends("kind", KIND, index, |value| with(0, 0, value));
+    for kind in 0..=KIND.1 {
+        inside("kind", &with(kind, 0, kind), index);
+        both_ends(&format!("mark of kind {kind}"), MARK, index + 1, |value| with(kind, 1, value));
+    }
+}
+
+#[test]
+fn fields_of_each_kind() {
+    let index = HEADER + 8 * HEAD;
+    for kind in 0..=KIND.1 {
+        for top in [T.0, T.0 + 1, 7, T.1 - 1, T.1] {
+            let fields = fields(kind, top);
+            let name = |field: &str| format!("{field} of kind {kind} under T = {top}");
+            let node = || least_of(kind, top);
+            both_ends(&name("d"), fields.delay, index + 2, |delay| with_node(top, Node { delay, ..node() }).0);
+            both_ends(&name("lat"), fields.latency, index + 3, |latency| with_node(top, Node { latency, ..node() }).0);
+            // As many operands as the count says, up to one more than the most.
+            both_ends(&name("operands"), fields.operands, index + 4, |count| {
+                let (mut all, _) = with_node(top, Node { operands: vec![7; count.min(7) as usize], ..node() });
+                all[index + 4] = count;
+                all
+            });
+        }
+    }
+}
+
+#[test]
+fn operand_ids() {
+    for kind in [1, 2] {
+        let most = fields(kind, 1).operands.1 as usize;
+        for own in [1, 2, 127, 128, 129, 254, N.1 - 1] {
+            for position in 0..most {
+                let with = |id: u32| {
+                    let mut sheet = plain(own, 1);
+                    let mut operands = vec![0; most];
+                    operands[position] = id;
+                    sheet.nodes.push(Node { operands, ..least_of(kind, 1) });
+                    numbers(&sheet)
+                };
+                let index = HEADER + own as usize * HEAD + HEAD + position;
+                let name = format!("operand {position} of node {own}, of kind {kind}");
+                inside(&name, &with(0), index);
+                inside(&name, &with(own - 1), index);
+                for id in [own, own + 1, N.1 - 1, N.1, NUMBER].into_iter().filter(|&id| id >= own) {
+                    outside(&name, &with(id), index, 4);
+                }
+            }
+        }
+    }
+    // Node 0 reads nothing.
+    let first = |kind| [K.0, 1, H.0, 1, 0, kind, 0, 1, 0, 1, 0];
+    outside("operand of node 0", &first(1), 10, 4);
+    outside("operand of node 0", &first(2), 10, 4);
+}
+
+#[test]
+fn differences() {
+    for n in [N.0, 2, 127, 128, 129, N.1] {
+        for (m, which) in [(1, 0), (3, 2), (M.1, 0), (M.1, M.1 - 1)] {
+            let sheet = plain(n, m);
+            let index = HEADER + n as usize * HEAD + 3 * which as usize;
+            let with = |offset: usize| {
+                let all = numbers(&sheet);
+                move |value: u32| {
+                    let mut all = all.clone();
+                    all[index + offset] = value;
+                    all
+                }
+            };
+            let name = |field: &str| format!("{field} of difference {which} of {m}, n = {n}");
+            both_ends(&name("u"), (0, n - 1), index, with(0));
+            both_ends(&name("v"), (0, n - 1), index + 1, with(1));
+            both_ends(&name("code of w"), CODE, index + 2, with(2));
+            // The least w.
+            inside(&name("code of w"), &with(2)(CODE.1 - 1), index + 2);
+        }
+    }
+}
+
+/// The bytes of a sheet with other bytes in the place of the number at an index.
+fn respelled(numbers: &[u32], index: usize, spelling: &[u8]) -> Vec<u8> {
+    [spelled(&numbers[..index]), spelling.to_vec(), spelled(&numbers[index + 1..])].concat()
+}
+
+#[test]
+fn spelling() {
+    // Every number of a sheet with two inputs, a table, a box and a difference.
+    let mut sheet = plain(2, 1);
+    sheet.nodes.extend([table(true, &[0, 1]), Node { operands: vec![2, 0], ..least_of(2, 1) }]);
+    let all = numbers(&sheet);
+    let operands = [20, 21, 27, 28];
+    assert_eq!(operands.map(|index| all[index]), [0, 1, 2, 0]);
+    taken("the whole sheet", &spelled(&all));
+    for index in 0..all.len() {
+        let at = place(&all, index);
+        // A second byte that is none, whatever the first says.
+        for first in [0x80 | all[index] as u8, 0x80, 0xff] {
+            for second in [0, 128, 129, 254, 255] {
+                refused(&format!("{first} {second} as number {index}"), &respelled(&all, index, &[first, second]), 2, at);
+            }
+        }
+        // The greatest second byte is one: the value is refused, and not its spelling.
+        let ground = if operands.contains(&index) { 4 } else { 3 };
+        for first in [0x80, 0xff] {
+            refused(&format!("{first} 127 as number {index}"), &respelled(&all, index, &[first, 127]), ground, at);
+        }
+        // The sheet ends before the number, or in it.
+        let before = spelled(&all[..index]);
+        refused(&format!("no number {index}"), &before, 1, at);
+        refused(&format!("half of number {index}"), &[before, vec![0x80]].concat(), 1, at + 1);
+    }
+    // The greatest first byte of one, and the least second of two.
+    for spelling in [vec![127], vec![0x80, 1], vec![0xff, 1]] {
+        taken(&format!("{spelling:?} as H"), &respelled(&all, 2, &spelling));
+    }
+    let whole = spelled(&all);
+    refused("one byte more", &[whole.clone(), vec![0]].concat(), 5, whole.len() as u64);
+}

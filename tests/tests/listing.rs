@@ -1,0 +1,241 @@
+//! The listing program, byte for byte, against a listing written here from document 01: of the plan by brute force for small sheets, of the plan of
+//! the planning call for large ones; and the line of each refusal.
+#![cfg(planner)]
+use maps_tests::library::plan;
+use maps_tests::limits::{H, W};
+use maps_tests::made::{self, chain, greatest, input, numbers, small, spelled, stairs, table, Size};
+use maps_tests::plan::{refusal_line, Plan};
+use maps_tests::planner::outcome;
+use maps_tests::random::Random;
+use maps_tests::reader::{self, Difference, Node, Sheet};
+use std::fs::{self, File};
+use std::io::{Read, Seek, SeekFrom, Write};
+use std::path::PathBuf;
+use std::process::{Command, Stdio};
+
+const SEED: u64 = 20260104;
+
+/// The program stops reading after so many bytes.
+const STOP: usize = 16_384;
+
+/// The program, which `rt check listing` builds.
+fn program() -> PathBuf {
+    let path = PathBuf::from(env!("CARGO_MANIFEST_DIR")).parent().unwrap().join("target/bin/listing");
+    assert!(path.exists(), "there is no {}: `rt check listing` builds it", path.display());
+    path
+}
+
+/// What the program prints where standard input is a file with these bytes. It ends well, reads all of them up to where it stops, and says nothing
+/// on standard error.
+fn printed(bytes: &[u8]) -> String {
+    let name = format!("maps-listing-{}-{:?}", std::process::id(), std::thread::current().id());
+    let path = std::env::temp_dir().join(name);
+    let mut file = File::options().read(true).write(true).create_new(true).open(&path).expect("a file for the sheet");
+    fs::remove_file(&path).expect("the file has no name any more");
+    file.write_all(bytes).unwrap();
+    file.seek(SeekFrom::Start(0)).unwrap();
+    let output = Command::new(program()).stdin(file.try_clone().unwrap()).output().expect("the program runs");
+    assert!(output.status.success() && output.stderr.is_empty(), "{output:?}");
+    assert_eq!(file.stream_position().unwrap(), bytes.len().min(STOP) as u64, "bytes read of {}", bytes.len());
+    String::from_utf8(output.stdout).expect("text")
+}
+
+/// Holds what the program prints to a listing, or the line of a refusal.
+fn compare(bytes: &[u8], expected: &str) {
+    let found = printed(bytes);
+    if found != expected {
+        let (mut found, mut expected) = (found.split_inclusive('\n'), expected.split_inclusive('\n'));
+        let differ = std::iter::repeat_with(|| (found.next(), expected.next())).find(|(a, b)| a != b).unwrap();
+        panic!("{:?} and not {:?}, for {bytes:?}", differ.0, differ.1);
+    }
+}
+
+/// The listing of a plan of so many nodes.
+fn listing(nodes: usize, plan: &[u8]) -> String {
+    Plan::decoded(nodes, plan).listing()
+}
+
+/// The number of nodes of a sheet that reads.
+fn nodes(bytes: &[u8]) -> usize {
+    reader::read(bytes).expect("a sheet that reads").nodes.len()
+}
+
+/// Compares on a small sheet, of which brute force gives the plan; gives the number.
+fn compare_small(bytes: &[u8]) -> u64 {
+    let (number, place, plan) = outcome(bytes, 5000);
+    match plan {
+        Some(plan) => compare(bytes, &listing(nodes(bytes), &plan)),
+        None => compare(bytes, &refusal_line(number, place)),
+    }
+    number
+}
+
+/// Compares on a sheet that reads, of which the planning call gives the plan. Gives the plan's numbers, none where it is refused.
+fn compare_large(sheet: &Sheet) -> Option<Plan> {
+    let bytes = spelled(&numbers(sheet));
+    let mut buffer = vec![0; 5000];
+    let answer = plan(&bytes, &mut buffer);
+    if answer.number != 0 {
+        compare(&bytes, &refusal_line(answer.number, answer.place));
+        return None;
+    }
+    let plan = Plan::decoded(sheet.nodes.len(), &buffer[..answer.place as usize]);
+    compare(&bytes, &plan.listing());
+    Some(plan)
+}
+
+#[test]
+fn small_sheets() {
+    println!("seed {SEED}");
+    let mut random = Random::new(SEED);
+    let mut met = [0; 9];
+    for round in 0..240 {
+        let sheet = match round % 3 {
+            0 => stairs(&mut random),
+            1 => small(&mut random, &Size { nodes: 12, top: 64, horizon: H.1, latency: 255, wide: false }),
+            _ => small(&mut random, &Size { nodes: 9, top: 3, horizon: 40, latency: 30, wide: round % 2 == 0 }),
+        };
+        met[compare_small(&spelled(&numbers(&sheet))) as usize] += 1;
+    }
+    println!("sheets by number: {met:?}");
+    assert!([0, 6, 7].iter().all(|&number| met[number] > 10), "{met:?}");
+}
+
+/// The least and the greatest count of digits in the numbers that `of` takes from plans.
+fn digits<'a, I: Iterator<Item = u32>>(plans: &'a [Plan], of: impl Fn(&'a Plan) -> I) -> (usize, usize) {
+    let counts: Vec<usize> = plans.iter().flat_map(of).map(|n| n.to_string().len()).collect();
+    (*counts.iter().min().unwrap(), *counts.iter().max().unwrap())
+}
+
+/// A sheet of n nodes: tables that read the nodes just below and some far below, and boxes, pushed apart by differences so that steps lie all the
+/// way up to H.
+fn spread(random: &mut Random, n: u32) -> Sheet {
+    let nodes: Vec<Node> = (0..n)
+        .map(|own| match own {
+            _ if own < 6.min(n) || random.once_in(9) => Node { output: random.once_in(4), ..input() },
+            _ if random.once_in(7) => {
+                let operands = (0..random.within(0, 6)).map(|_| own - random.within(1, own)).collect();
+                Node { kind: 2, output: random.once_in(4), delay: random.within(0, 64), latency: random.within(0, 255), operands }
+            }
+            _ => {
+                let operands: Vec<u32> = (0..random.within(1, 6)).map(|_| own - random.within(1, own.min(9))).collect();
+                Node { delay: random.within(1, 64), ..table(random.once_in(4), &operands) }
+            }
+        })
+        .collect();
+    let differences = (0..random.within(1, 9))
+        .map(|_| {
+            let (a, b) = (random.within(0, n - 1), random.within(0, n - 1));
+            Difference { from: a.min(b), to: a.max(b), weight: if a == b { 0 } else { random.within(0, W / 3) as i32 } }
+        })
+        .collect();
+    Sheet { leaves: 6, top: 64, horizon: H.1, nodes, differences }
+}
+
+#[test]
+fn large_sheets() {
+    println!("seed {}", SEED + 1);
+    let mut random = Random::new(SEED + 1);
+    let sizes = [1, 6, 7, 9, 10, 11, 12, 99, 100, 101, 128, 255, 256, 256, 256];
+    let mut plans: Vec<Plan> = (0..75).filter_map(|round| compare_large(&spread(&mut random, sizes[round % sizes.len()]))).collect();
+    plans.extend((0..6).filter_map(|round| compare_large(&made::large(&mut random, 4 * round))));
+    plans.push(compare_large(&chain(16)).expect("a chain within H"));
+    assert!(compare_large(&chain(17)).is_none(), "a chain past H");
+    let whole = plans.iter().filter(|plan| plan.labels.len() == 256).count();
+    println!("{} plans, {whole} of 256 nodes", plans.len());
+    assert!(plans.len() > 40 && whole > 10);
+    // One digit, and as many as there can be; each count of leaves.
+    assert_eq!(digits(&plans, |plan| [plan.latency].into_iter()), (1, 4));
+    assert_eq!(digits(&plans, |plan| plan.labels.iter().map(|label| label.0)), (1, 4));
+    assert_eq!(digits(&plans, |plan| plan.labels.iter().map(|label| label.1)), (1, 2));
+    assert_eq!(digits(&plans, |plan| plan.leaves.iter().flatten().copied()), (1, 3));
+    for count in 0..=6 {
+        assert!(plans.iter().any(|plan| plan.leaves.iter().any(|leaves| leaves.len() == count)), "no node with {count} leaves");
+    }
+}
+
+#[test]
+fn differences_of_one_to_four_digits() {
+    // Two inputs w steps apart, and a table on both.
+    let nodes = vec![input(), input(), table(true, &[0, 1])];
+    for (horizon, weight) in [(H.1, W as i32), (H.1, 3_807), (1_000, 1_000), (999, 999), (100, 99), (10, 10), (10, 9)] {
+        let differences = vec![Difference { from: 0, to: 1, weight }];
+        let sheet = Sheet { leaves: 2, top: 1, horizon, nodes: nodes.clone(), differences };
+        let expected = format!("latency {weight}\n0 0 0 used\n1 {weight} 0 used\n2 {weight} 1 used 0 1\n");
+        compare(&spelled(&numbers(&sheet)), &expected);
+    }
+}
+
+#[test]
+fn refusals_far_into_a_sheet() {
+    println!("seed {}", SEED + 2);
+    let mut random = Random::new(SEED + 2);
+    let whole = numbers(&greatest(&mut random));
+    let bytes = spelled(&whole);
+    let mut met = [0; 6];
+    let mut expect = |bytes: &[u8]| {
+        let (number, place) = reader::read(bytes).expect_err("a damaged sheet");
+        compare(bytes, &refusal_line(number, place));
+        met[number as usize] += u32::from(place > 999);
+    };
+    for length in [0, 9, 10, 99, 100, 999, 1_000, 1_001, 5_000, 9_000, bytes.len() - 1] {
+        expect(&bytes[..length]);
+    }
+    for _ in 0..40 {
+        // A second byte that is none; a value outside every range, or an operand id that is; a tail.
+        let index = random.within(1000, whole.len() as u32 - 1) as usize;
+        let before = spelled(&whole[..index]);
+        expect(&[before.clone(), vec![0x80, 0], bytes[before.len()..].to_vec()].concat());
+        expect(&[before, vec![0xff, 0x7f], spelled(&whole[index + 1..])].concat());
+        expect(&[bytes.clone(), vec![random.next() as u8; random.within(1, 300) as usize]].concat());
+    }
+    println!("refusals 1 to 5 with a place above 999: {:?}", &met[1..]);
+    assert!(met[1..].iter().all(|&count| count > 3), "{met:?}");
+}
+
+#[test]
+fn tables_without_a_cut() {
+    // Three inputs, tables that read one of them, and one that reads all three.
+    for own in [3, 9, 10, 99, 100, 101, 199, 255] {
+        let mut nodes = vec![input(); 3];
+        nodes.resize(256, table(true, &[1]));
+        nodes[own as usize] = table(false, &[0, 1, 2]);
+        let sheet = Sheet { leaves: 2, top: 1, horizon: 0, nodes, differences: Vec::new() };
+        compare(&spelled(&numbers(&sheet)), &format!("refused 6 {own}\n"));
+    }
+}
+
+#[test]
+fn input_longer_than_the_program_reads() {
+    let mut random = Random::new(SEED + 3);
+    for sheet in [chain(16), greatest(&mut random), spread(&mut random, 6)] {
+        let bytes = spelled(&numbers(&sheet));
+        for length in [STOP - 1, STOP, STOP + 1, STOP + 128, 2 * STOP, 10 * STOP + 1] {
+            let longer = [bytes.clone(), vec![0; length - bytes.len()]].concat();
+            compare(&longer, &refusal_line(5, bytes.len() as u64));
+        }
+    }
+}
+
+#[test]
+fn input_in_pieces() {
+    let mut random = Random::new(SEED + 4);
+    let bytes = spelled(&numbers(&spread(&mut random, 40)));
+    let mut buffer = vec![0; 5000];
+    let answer = plan(&bytes, &mut buffer);
+    assert_eq!(answer.number, 0);
+    let expected = listing(40, &buffer[..answer.place as usize]);
+    for piece in [1, 7, 64] {
+        let mut child = Command::new(program()).stdin(Stdio::piped()).stdout(Stdio::piped()).spawn().expect("the program runs");
+        let mut pipe = child.stdin.take().unwrap();
+        for part in bytes.chunks(piece) {
+            pipe.write_all(part).unwrap();
+            pipe.flush().unwrap();
+            std::thread::sleep(std::time::Duration::from_micros(50));
+        }
+        drop(pipe);
+        let mut found = String::new();
+        child.stdout.take().unwrap().read_to_string(&mut found).unwrap();
+        assert!(child.wait().unwrap().success() && found == expected, "in pieces of {piece}: {found}");
+    }
+}

@@ -1,0 +1,243 @@
+//! MAPS_STACK of the header against a bound on the stack of the planning call. The bound comes from the archive itself: the frame of each function
+//! and who calls whom are read from its disassembly, and a recursive function counts as often as it can be active at once.
+#![cfg(planner)]
+use maps_tests::library::plan;
+use maps_tests::limits::{fields, N};
+use maps_tests::made::{chain, greatest, input, numbers, spelled, table};
+use maps_tests::random::Random;
+use maps_tests::reader::Sheet;
+use std::collections::{BTreeMap, BTreeSet};
+use std::path::{Path, PathBuf};
+use std::process::Command;
+
+/// Ids of nodes, and operands of one.
+const NODES: u64 = N.1 as u64;
+const OPERANDS: u64 = fields(1, 1).operands.1 as u64;
+
+/// The recursive functions, by crate and name, with how often each can be active at once.
+///
+/// The cone walk (crates/cone): `visit` of u goes on only where u's byte of `part` is 0, and sets it, so it goes on once for each node; one more
+/// may be active, which returns at once. `visit_operands` of a node begins once, from `visit` or the walk's start, and calls itself with the next
+/// operand, so that for each node it is active once for each operand and once past the last.
+///
+/// The search (crates/cut): `expand` of p goes on only where `seen[p]` is 0, and sets it: once for each node, and one more that returns at once.
+/// `scan` begins once in each `expand` and calls itself with the next operand. An `enter` that is not the last call has called an `expand`, so
+/// there is at most one more of it.
+///
+/// A compiler that inlines some of them, or makes a loop of a last call, leaves fewer frames of each, never more.
+const RECURSIVE: [(&str, &str, u64); 5] = [
+    ("cone", "visit_operands", NODES * (OPERANDS + 1)),
+    ("cone", "visit", NODES + 1),
+    ("cut", "expand", NODES + 1),
+    ("cut", "scan", NODES * (OPERANDS + 1)),
+    ("cut", "enter", NODES + 2),
+];
+
+/// Functions of the C library that the compiler calls by itself, and what is allowed for one of them: they are leaves with small frames, and the
+/// first call of one may go through the dynamic linker, which saves the vector registers on the stack.
+const FOREIGN: [&str; 4] = ["memset", "memcpy", "memmove", "memcmp"];
+const FOREIGN_BYTES: u64 = 8192;
+
+/// The return address, which each call adds.
+const RETURN: u64 = 8;
+
+fn root() -> PathBuf {
+    Path::new(env!("CARGO_MANIFEST_DIR")).parent().unwrap().to_path_buf()
+}
+
+/// A function of the archive.
+#[derive(Debug, Default)]
+struct Function {
+    section: String,
+    start: u64,
+    /// Bytes that it takes from the stack, all of its pushes and subtractions together.
+    frame: u64,
+    /// Whom it calls or jumps to.
+    calls: BTreeSet<String>,
+}
+
+fn hexadecimal(text: &str) -> u64 {
+    u64::from_str_radix(text.trim_start_matches("0x"), 16).unwrap_or_else(|_| panic!("no number: {text}"))
+}
+
+/// A constant operand, as `$0x28,%rsp` has it: its value, which is signed, and the register.
+fn constant(operands: &str) -> Option<(i64, &str)> {
+    let (value, register) = operands.strip_prefix('$')?.split_once(',')?;
+    Some((hexadecimal(value) as i64, register))
+}
+
+/// What one instruction takes from the stack. `probe` is true between the copy of the stack pointer and the loop that touches each page down to it.
+fn taken(operation: &str, operands: &str, probe: &mut bool) -> u64 {
+    match (operation, constant(operands)) {
+        ("mov", _) if operands == "%rsp,%r11" => {
+            *probe = true;
+            0
+        }
+        ("sub", Some((bytes, "%r11"))) if *probe => bytes as u64,
+        // The loop's own step, which the line above has counted whole.
+        ("sub", Some((_, "%rsp"))) if *probe => {
+            *probe = false;
+            0
+        }
+        // What gives back counts as 0. 128 bytes are taken by adding -128.
+        ("sub", Some((bytes, "%rsp"))) => bytes.max(0) as u64,
+        ("add", Some((bytes, "%rsp"))) => (-bytes).max(0) as u64,
+        ("push", _) => 8,
+        ("pop", _) => 0,
+        ("cmp" | "test", _) => 0,
+        _ if operands.ends_with(",%rsp") || ["enter", "leave", "pushf"].contains(&operation) => {
+            panic!("the stack pointer changes in a way that is not known: {operation} {operands}")
+        }
+        _ => 0,
+    }
+}
+
+/// The functions of an archive, from what `objdump -dr` prints of it.
+fn functions(text: &str) -> BTreeMap<String, Function> {
+    let mut all: BTreeMap<String, Function> = BTreeMap::new();
+    let (mut section, mut name, mut probe, mut jumps) = (String::new(), String::new(), false, false);
+    // Each relocation's function and target, and whether it is that of a call or jump.
+    let mut relocations: Vec<(String, String, bool)> = Vec::new();
+    for line in text.lines() {
+        if let Some(rest) = line.strip_prefix("Disassembly of section ") {
+            section = rest.trim_end_matches(':').to_string();
+        } else if let Some((start, rest)) = line.split_once(" <").filter(|_| line.ends_with(">:")) {
+            name = rest.trim_end_matches(">:").to_string();
+            probe = false;
+            let new = Function { section: section.clone(), start: hexadecimal(start), ..Function::default() };
+            assert!(all.insert(name.clone(), new).is_none(), "two functions are named {name}");
+        } else if let Some((_, relocation)) = line.split_once(": R_X86_64_") {
+            let target = relocation.split_once(char::is_whitespace).expect("a relocation's target").1.trim();
+            relocations.push((name.clone(), target.to_string(), jumps));
+        } else if let Some(instruction) = line.split('\t').nth(2) {
+            let instruction = instruction.trim().trim_start_matches("notrack ");
+            let (operation, operands) = instruction.split_once(char::is_whitespace).unwrap_or((instruction, ""));
+            let operands = operands.split_once(" #").map_or(operands, |(before, _)| before).trim();
+            // Older versions write callq, pushq and popq.
+            let operation = if ["callq", "jmpq", "pushq", "popq"].contains(&operation) { operation.trim_end_matches('q') } else { operation };
+            jumps = operation == "call" || operation.starts_with('j');
+            let function = all.get_mut(&name).expect("a function");
+            function.frame += taken(operation, operands, &mut probe);
+            // A jump through a register stays in its function: the table of a switch.
+            assert!(operation != "call" || !operands.starts_with('*'), "{name} calls through a pointer: {instruction}");
+            // A target inside a function has an offset in it, and is no call; one without is its beginning.
+            if let Some((_, target)) = operands.split_once('<').filter(|_| jumps) {
+                let target = target.trim_end_matches('>');
+                if !target.contains("+0x") && (operation == "call" || target != name) {
+                    function.calls.insert(target.to_string());
+                }
+            }
+        }
+    }
+    for (from, target, jumps) in relocations {
+        let at = target.rfind(['+', '-']).unwrap_or(target.len());
+        let (symbol, addend) = target.split_at(at);
+        let to = if symbol.starts_with(".text") {
+            // A place in a section; the addend counts from 4 bytes before the next instruction.
+            let place = if addend.starts_with('+') { hexadecimal(&addend[1..]) + 4 } else { 4 - hexadecimal(&addend[1..]) };
+            let before = all.iter().filter(|(_, f)| f.section == symbol && f.start <= place);
+            before.max_by_key(|(_, f)| f.start).unwrap_or_else(|| panic!("nothing stands at {target}")).0.clone()
+        } else {
+            symbol.to_string()
+        };
+        if jumps {
+            all.get_mut(&from).unwrap().calls.insert(to);
+        } else {
+            assert!(!all.contains_key(&to), "{from} takes the address of {to}");
+        }
+    }
+    all
+}
+
+/// What can be reached from a function by calls.
+fn reached<'a>(all: &'a BTreeMap<String, Function>, from: &'a str) -> BTreeSet<&'a str> {
+    let mut met = BTreeSet::new();
+    let mut open = vec![from];
+    while let Some(next) = open.pop() {
+        if let Some(function) = all.get(next) {
+            open.extend(function.calls.iter().map(String::as_str).filter(|&to| met.insert(to)));
+        }
+    }
+    met
+}
+
+/// How often a function that can reach itself is active at once. A name is a path, or has each of its words behind the count of its letters.
+fn activations(name: &str) -> u64 {
+    let is = |in_crate: &str, function: &str| {
+        let counted = |word: &str| name.contains(&format!("{}{word}", word.len()));
+        name.starts_with(&format!("{in_crate}::")) && name.ends_with(&format!("::{function}")) || counted(in_crate) && counted(function)
+    };
+    let known = RECURSIVE.iter().find(|(in_crate, function, _)| is(in_crate, function));
+    known.unwrap_or_else(|| panic!("{name} is recursive, and this test has no bound for it")).2
+}
+
+/// The most that the stack holds from the call of a function on, its return address included.
+fn deepest(all: &BTreeMap<String, Function>, name: &str) -> u64 {
+    if !all.contains_key(name) {
+        assert!(FOREIGN.contains(&name), "{name} is not in the archive, and not known");
+        return FOREIGN_BYTES;
+    }
+    // The functions that call each other with this one, or this one alone.
+    let below = reached(all, name);
+    let group: BTreeSet<&str> = below.iter().copied().filter(|to| reached(all, to).contains(name)).chain([name]).collect();
+    let count = |member: &str| if below.contains(name) { activations(member) } else { 1 };
+    let own: u64 = group.iter().map(|member| count(member) * (all[*member].frame + RETURN)).sum();
+    let next = group.iter().flat_map(|member| &all[*member].calls).filter(|to| !group.contains(to.as_str()));
+    own + next.map(|to| deepest(all, to)).max().unwrap_or(0)
+}
+
+/// The functions of the planner's archive.
+fn archive() -> BTreeMap<String, Function> {
+    let path = root().join("target/staticlib/libplanner.a");
+    let output = Command::new("objdump").arg("-dr").arg(&path).output().expect("objdump runs");
+    assert!(output.status.success(), "{}", String::from_utf8_lossy(&output.stderr));
+    functions(&String::from_utf8(output.stdout).expect("text"))
+}
+
+/// MAPS_STACK.
+fn promised() -> u64 {
+    let header = std::fs::read_to_string(root().join("include/maps.h")).expect("the header");
+    let value = header.lines().find_map(|line| line.strip_prefix("#define MAPS_STACK ")).expect("MAPS_STACK");
+    value.trim().parse().expect("a number of bytes")
+}
+
+#[test]
+fn the_header_promises_no_less_than_the_bound() {
+    let all = archive();
+    for (name, function) in &all {
+        let times = if reached(&all, name).contains(name.as_str()) { activations(name) } else { 1 };
+        println!("{name}: {} bytes, {times} at once, calls {:?}", function.frame + RETURN, function.calls);
+    }
+    // The walks of the two crates are recursive: a reading of the archive that does not see this is wrong.
+    for in_crate in ["cone", "cut"] {
+        assert!(all.keys().any(|name| name.contains(in_crate) && reached(&all, name).contains(name.as_str())), "no recursion in {in_crate}");
+    }
+    let bound = deepest(&all, "maps_plan");
+    println!("bound {bound}, promised {}", promised());
+    assert!(bound <= promised(), "MAPS_STACK is {}, and the call may take {bound} bytes", promised());
+}
+
+/// Tables that each read the one below and one of `inputs` inputs: with T = 1 all of them must be inside one cone, and a walk goes down all of it.
+fn ladder(inputs: u32) -> Sheet {
+    let nodes = (0..256).map(|own| if own < inputs { input() } else { table(own == 255, &[own % inputs, own - 1]) }).collect();
+    Sheet { leaves: 6, top: 1, horizon: 4095, nodes, differences: Vec::new() }
+}
+
+#[test]
+fn the_bound_is_enough_for_deep_sheets() {
+    // Besides the call, the thread itself needs some.
+    let stack = deepest(&archive(), "maps_plan") as usize + 16_384;
+    let planning = move || {
+        let mut random = Random::new(20260105);
+        let mut met = [0; 9];
+        let sheets = (1..40).map(ladder).chain((0..20).map(|_| greatest(&mut random))).chain((0..20).map(chain));
+        for sheet in sheets.collect::<Vec<_>>() {
+            let mut buffer = vec![0; 5000];
+            met[plan(&spelled(&numbers(&sheet)), &mut buffer).number as usize] += 1;
+        }
+        met
+    };
+    let met = std::thread::Builder::new().stack_size(stack).spawn(planning).expect("a thread").join().expect("planning within the bound");
+    println!("{stack} bytes of stack; sheets by number: {met:?}");
+    assert!(met[0] > 20);
+}
