@@ -20,7 +20,7 @@ const OPERANDS: u64 = fields(1, 1).operands.1 as u64;
 /// may be active, which returns at once. `visit_operands` of a node begins once, from `visit` or the walk's start, and calls itself with the next
 /// operand, so that for each node it is active once for each operand and once past the last.
 ///
-/// The search (crates/cut): `expand` of p goes on only where `seen[p]` is 0, and sets it: once for each node, and one more that returns at once.
+/// The search (crates/flow): `expand` of p goes on only where `seen[p]` is 0, and sets it: once for each node, and one more that returns at once.
 /// `scan` begins once in each `expand` and calls itself with the next operand. An `enter` that is not the last call has called an `expand`, so
 /// there is at most one more of it.
 ///
@@ -28,9 +28,9 @@ const OPERANDS: u64 = fields(1, 1).operands.1 as u64;
 const RECURSIVE: [(&str, &str, u64); 5] = [
     ("cone", "visit_operands", NODES * (OPERANDS + 1)),
     ("cone", "visit", NODES + 1),
-    ("cut", "expand", NODES + 1),
-    ("cut", "scan", NODES * (OPERANDS + 1)),
-    ("cut", "enter", NODES + 2),
+    ("flow", "expand", NODES + 1),
+    ("flow", "scan", NODES * (OPERANDS + 1)),
+    ("flow", "enter", NODES + 2),
 ];
 
 /// Functions of the C library that the compiler calls by itself, and what is allowed for one of them: they are leaves with small frames, and the
@@ -209,7 +209,7 @@ fn the_header_promises_no_less_than_the_bound() {
         println!("{name}: {} bytes, {times} at once, calls {:?}", function.frame + RETURN, function.calls);
     }
     // The walks of the two crates are recursive: a reading of the archive that does not see this is wrong.
-    for in_crate in ["cone", "cut"] {
+    for in_crate in ["cone", "flow"] {
         assert!(all.keys().any(|name| name.contains(in_crate) && reached(&all, name).contains(name.as_str())), "no recursion in {in_crate}");
     }
     let bound = deepest(&all, "maps_plan");

@@ -12,7 +12,7 @@ use lib.ListN.{length, getD, set, replicate, getD-replicate}
 use lib.Seq.{getD-set-same, getD-set-other}
 use borrow.Author.Tests.{eqb-true, eqb-false}
 use Rattle.maps.proofs.Over.{last-or}
-use Rattle.sheet.specs.Table.{operandIn, latencyIn, toIn}
+use Rattle.rows.specs.Table.{operandIn, latencyIn, toIn}
 use Rattle.bound.specs.Lookup.{lastInto, Linked}
 use Rattle.bound.specs.Bound.{Greatest, readyStep}
 

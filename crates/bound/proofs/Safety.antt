@@ -7,9 +7,9 @@ use lib.ListN.{length, getD}
 use Rattle.maps.specs.Sheet.{Sheet, node, size, latency}
 use Rattle.maps.specs.WellFormed.{WellDifference}
 use Rattle.maps.proofs.Member.{All-get, index-mem}
-use Rattle.sheet.specs.Table.{latencyIn, delayIn, toIn, noDifference, differenceAt, Falling}
-use Rattle.sheet.specs.declared.reader.Header as R
-use Rattle.sheet.proofs.Tables.{falling}
+use Rattle.rows.specs.Table.{latencyIn, delayIn, toIn, noDifference, differenceAt, Falling}
+use Rattle.rows.specs.declared.Header as R
+use Rattle.rows.proofs.Tables.{falling}
 use Rattle.relax.specs.Guard.{Kept}
 use Rattle.bound.specs.Lookup.{Soon}
 use Rattle.bound.specs.Bound.{Summed, HoldsAt}

@@ -5,7 +5,7 @@ use mathlib.Core.List.{List}
 use mathlib.Core.Logic.{_⊎_}
 use lib.ListN.{getD}
 use Rattle.maps.specs.Label.{Label, label, _≼_}
-use Rattle.sheet.specs.Table.{delayIn, operandIn, latencyIn, fromIn, toIn, plusIn, minusIn}
+use Rattle.rows.specs.Table.{delayIn, operandIn, latencyIn, fromIn, toIn, plusIn, minusIn}
 use Rattle.bound.specs.Lookup.{arrivalIn}
 
 -- r is the least level of step s by which each of count labels has come; top + 1 where no level up to top is

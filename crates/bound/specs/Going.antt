@@ -8,8 +8,8 @@ use Rattle.maps.specs.Label.{Label, label, later}
 use Rattle.maps.specs.Sheet.{Sheet, node, size, latency}
 use Rattle.maps.specs.Cut.{logicNode, FittingCut}
 use Rattle.maps.specs.WellFormed.{WellFormed}
-use Rattle.sheet.specs.Table.{Tabled, Listed}
-use Rattle.sheet.specs.declared.reader.Header as R
+use Rattle.rows.specs.Table.{Tabled, Listed}
+use Rattle.rows.specs.declared.Header as R
 use Rattle.relax.specs.Settle.{Asks}
 use Rattle.bound.specs.Lookup.{Row, Linked}
 

@@ -8,7 +8,7 @@ use lib.Dec.{eqb}
 use lib.ListN.{length, getD}
 use Rattle.maps.specs.Label.{Label, label, plus, ready}
 use Rattle.maps.specs.Lists.{below}
-use Rattle.sheet.specs.Table.{latencyIn, toIn}
+use Rattle.rows.specs.Table.{latencyIn, toIn}
 
 -- the label of v
 abbrev pub labelIn : (steps levels : List ℕ) → ℕ → Label

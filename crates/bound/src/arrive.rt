@@ -4,17 +4,17 @@ ghost use Prim.Native.Nat.{ℕ, _+_, _<_};
 ghost use lib.ListN.{getD, set, replicate};
 ghost use Rattle.maps.specs.Code.{labelOf};
 ghost use Rattle.maps.specs.Label.{earliest};
-ghost use Rattle.sheet.specs.Table.{latencyIn, countIn, Falling};
+ghost use Rattle.rows.specs.Table.{latencyIn, countIn, Falling};
 ghost use Rattle.bound.specs.Lookup.{labelIn, arrivalIn, Soon};
 ghost use Rattle.bound.specs.Bound.{Carrying, Latest};
 use maps::Label;
 use maps::Level;
 use maps::Step;
-use sheet::Graph;
-use sheet::count_in;
-use sheet::delay_in;
-use sheet::latency_in;
-use sheet::operand_in;
+use rows::Graph;
+use rows::count_in;
+use rows::delay_in;
+use rows::latency_in;
+use rows::operand_in;
 
 // The step of each node's label.
 pub type Steps = [u32; 256];

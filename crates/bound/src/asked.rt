@@ -5,7 +5,7 @@ ghost use Prim.Native.Nat.{ℕ, _+_, _-_, _<_, _≤_, max};
 ghost use lib.ListN.{getD, length};
 ghost use Rattle.maps.specs.Sheet.{Sheet};
 ghost use Rattle.maps.specs.Code.{labelOf};
-ghost use Rattle.sheet.specs.Table.{countIn, fromIn, toIn, plusIn, minusIn, Falling};
+ghost use Rattle.rows.specs.Table.{countIn, fromIn, toIn, plusIn, minusIn, Falling};
 ghost use Rattle.relax.specs.Settle.{Asks};
 ghost use Rattle.bound.specs.Lookup.{labelIn, Linked, Soon};
 ghost use Rattle.bound.specs.Bound.{Greatest, readyStep, Summed};
@@ -17,13 +17,13 @@ use crate::arrive::ready_step;
 use crate::arrive::step_of;
 use maps::Label;
 use maps::Step;
-use sheet::Differences;
-use sheet::Graph;
-use sheet::Header;
-use sheet::count_in;
-use sheet::delay_in;
-use sheet::difference_in;
-use sheet::operand_in;
+use rows::Differences;
+use rows::Graph;
+use rows::Header;
+use rows::count_in;
+use rows::delay_in;
+use rows::difference_in;
+use rows::operand_in;
 
 // Puts difference i at the head of its target's list.
 pub fn link_one(differences: &Differences, first: &mut [u32; 256], next: &mut [u32; 1024], i: u32)

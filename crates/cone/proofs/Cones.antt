@@ -16,7 +16,7 @@ use Rattle.maps.specs.Cut.{reads, logicNode, Path-to, end, edge, cut}
 use Rattle.maps.proofs.Over.{and-true, same-test}
 use Rattle.maps.proofs.Member.{any-found, any-of, or-true, or-right, below-in}
 use Rattle.maps.proofs.Enumerate.{clash}
-use Rattle.sheet.specs.Table.{Falling, countIn, operandIn}
+use Rattle.rows.specs.Table.{Falling, countIn, operandIn}
 use Rattle.cone.specs.Walk.{marked, ConeInside, Question, FitTest}
 use Rattle.cone.specs.Part.{Member, Met, Read, Settled, member, leaf, Walked, leavesBelow, Listed}
 use Rattle.cone.proofs.Listing.{leaves-end}

@@ -6,7 +6,7 @@ use native.Mathlib.Decide.{ℕ-discrete}
 use native.Mathlib.Omega.{arith}
 use lib.ListN.{length, getD, set, length-set}
 use lib.Seq.{getD-set-same, getD-set-other}
-use Rattle.sheet.specs.Table.{countIn, operandIn}
+use Rattle.rows.specs.Table.{countIn, operandIn}
 use Rattle.cone.specs.Part.{Member, Met, Kept, Lent, Read, Settled, member, leaf, Grown, Walked}
 
 pub in-part : {g p : List ℕ} {u : ℕ} → Lent g p u → u < length p

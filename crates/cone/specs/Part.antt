@@ -5,7 +5,7 @@ use mathlib.Core.List.{List}
 use lib.Dec.{eqb}
 use lib.ListN.{length, getD, take}
 use Rattle.maps.specs.Lists.{keep, below}
-use Rattle.sheet.specs.Table.{countIn, operandIn, Falling}
+use Rattle.rows.specs.Table.{countIn, operandIn, Falling}
 
 abbrev pub Member : (part : List ℕ) → ℕ → Type 0
 Member p u = getD p u 0 ≡ 1

@@ -8,7 +8,7 @@ use lib.Dec.{eqb}
 use lib.ListN.{length, getD, take}
 use Rattle.maps.specs.Sheet.{Sheet, size}
 use Rattle.maps.specs.Cut.{reads, logicNode, Cone, cut}
-use Rattle.sheet.specs.Table.{Tabled}
+use Rattle.rows.specs.Table.{Tabled}
 
 -- the mark of u is not 0; past the end of the table no node is marked
 abbrev pub marked : (marks : List ℕ) → ℕ → Bool

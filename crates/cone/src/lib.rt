@@ -3,12 +3,12 @@
 // its operands, and each member's operands are walked once.
 ghost use Prim.Native.Nat.{ℕ, _<_, _≤_};
 ghost use Rattle.maps.specs.Sheet.{Sheet};
-ghost use Rattle.sheet.specs.Table.{Falling, countIn, operandIn};
+ghost use Rattle.rows.specs.Table.{Falling, countIn, operandIn};
 ghost use Rattle.cone.specs.Walk.{marked, Question, FitTest};
 ghost use Rattle.cone.specs.Part.{Member, Met, Lent, Read, Grown, Walked, Listed};
-use sheet::Graph;
-use sheet::count_in;
-use sheet::operand_in;
+use rows::Graph;
+use rows::count_in;
+use rows::operand_in;
 
 // Meets u, which a member reads: as a leaf, or as a member with its operands. A node that is met stays as it is.
 fn visit(graph: &Graph, marks: &[u8; 256], part: &mut [u8; 256], u: u32)

@@ -21,8 +21,8 @@ use Rattle.maps.proofs.Member.{All-map, All-at, All-of, All-get}
 use Rattle.maps.proofs.Planned.{ordered}
 use Rattle.maps.proofs.Chosen.{chosen-is, chosen-same}
 use Rattle.maps.proofs.UsedNodes.{leaf-below}
-use Rattle.sheet.specs.Table.{delayIn}
-use Rattle.sheet.specs.declared.reader.Header as R
+use Rattle.rows.specs.Table.{delayIn}
+use Rattle.rows.specs.declared.Header as R
 use Rattle.cut.specs.Question.{AllowedCut, Fewest, Best}
 use Rattle.relax.proofs.Forced.{leaf-read}
 use Rattle.bound.specs.Lookup.{labelIn, labelsIn, arrivalIn, countOf, leafOf}

@@ -18,9 +18,9 @@ use Rattle.maps.specs.Plan.{leavesOf}
 use Rattle.maps.proofs.Enumerate.{clash}
 use Rattle.maps.proofs.Member.{All-at, All-map, mem-out}
 use Rattle.maps.proofs.Planned.{operands-below}
-use Rattle.sheet.specs.Table.{kindAt, countIn, operandIn, Tabled}
-use Rattle.sheet.specs.declared.reader.Header as R
-use Rattle.sheet.proofs.Tables.{kind-tabled}
+use Rattle.rows.specs.Table.{kindAt, countIn, operandIn, Tabled}
+use Rattle.rows.specs.declared.Header as R
+use Rattle.rows.proofs.Tables.{kind-tabled}
 use Rattle.bound.specs.Lookup.{labelsIn, countOf, leafOf}
 use Rattle.level.proofs.CutRows.{count-beside, count-blank}
 use Rattle.cover.specs.Cover.{Covered, Rows, operandsOf, rowOf}

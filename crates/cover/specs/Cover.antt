@@ -10,7 +10,7 @@ use Rattle.maps.specs.Label.{Label}
 use Rattle.maps.specs.Sheet.{Sheet, size}
 use Rattle.maps.specs.Cover.{used}
 use Rattle.maps.specs.Plan.{leavesOf}
-use Rattle.sheet.specs.Table.{countIn, operandIn}
+use Rattle.rows.specs.Table.{countIn, operandIn}
 use Rattle.bound.specs.Lookup.{countOf, leafOf}
 
 -- the operands of v in the table of nodes, and the leaves in its row of a table of cuts

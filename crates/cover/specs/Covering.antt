@@ -14,8 +14,8 @@ use Rattle.maps.specs.Legal.{CarryingCut}
 use Rattle.maps.specs.Least.{at}
 use Rattle.maps.specs.Cover.{usedBelow, used, chosenCut}
 use Rattle.maps.specs.Plan.{leavesOf}
-use Rattle.sheet.specs.Table.{kindAt, markIn}
-use Rattle.sheet.specs.declared.reader.Header as R
+use Rattle.rows.specs.Table.{kindAt, markIn}
+use Rattle.rows.specs.declared.Header as R
 use Rattle.bound.specs.Lookup.{labelsIn, Beside, countOf}
 use Rattle.bound.specs.Going.{Given}
 use Rattle.cover.specs.Cover.{rowOf}

@@ -3,7 +3,7 @@ ghost use mathlib.Core.Path.{_≡_};
 ghost use mathlib.Core.Bool.{true};
 ghost use mathlib.Core.List.{[], _∷_};
 ghost use Prim.Native.Nat.{ℕ, _+_, _<_, _≤_};
-ghost use lib.ListN.{length, getD, take};
+ghost use lib.ListN.{length, take};
 ghost use Rattle.maps.specs.Limits.{leavesRange};
 ghost use Rattle.maps.specs.Lists.{All};
 ghost use Rattle.maps.specs.Sheet.{Sheet, size};
@@ -11,7 +11,7 @@ ghost use Rattle.maps.specs.Cut.{logicNode};
 ghost use Rattle.maps.specs.Legal.{CarryingCut};
 ghost use Rattle.maps.specs.Least.{at};
 ghost use Rattle.maps.specs.Cover.{chosenCut};
-ghost use Rattle.sheet.specs.Table.{Falling};
+ghost use Rattle.rows.specs.Table.{Falling};
 ghost use mathlib.Core.List.{List};
 ghost use Rattle.bound.specs.Lookup.{Soon, labelsIn, countOf};
 ghost use Rattle.bound.specs.Going.{Given};
@@ -28,12 +28,12 @@ use level::leaf_count_in;
 use level::leaf_in;
 use maps::Kind;
 use maps::Level;
-use sheet::Graph;
-use sheet::Header;
-use sheet::count_in;
-use sheet::kind_in;
-use sheet::operand_in;
-use sheet::output_in;
+use rows::Graph;
+use rows::Header;
+use rows::count_in;
+use rows::kind_in;
+use rows::operand_in;
+use rows::output_in;
 
 // Whether v is used: an output, a box, or marked already.
 fn is_used(graph: &Graph, used: &[u8; 256], v: u32) -> bool

@@ -4,8 +4,8 @@ use mathlib.Core.Path.{_≡_}
 use mathlib.Core.List.{List}
 use Rattle.maps.specs.Read.{parse}
 use Rattle.maps.proofs.Parse.{parse-well}
-use Rattle.sheet.specs.Table.{readAfter, answerNumber, answerPlace}
-use Rattle.sheet.proofs.Tables.{tabled, listed}
+use Rattle.sheet.specs.Answer.{readAfter, answerNumber, answerPlace}
+use Rattle.rows.proofs.Tables.{tabled, listed}
 use Rattle.customer.specs.Reading.{Reads}
 use Rattle.customer.proofs.Grounds.{parse-grounds}
 

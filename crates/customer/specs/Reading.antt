@@ -5,7 +5,7 @@ use mathlib.Core.Path.{_≡_}
 use mathlib.Core.List.{List}
 use Rattle.maps.specs.Sheet.{Sheet}
 use Rattle.maps.specs.Read.{sheet, refused, parse}
-use Rattle.sheet.specs.Table.{Tabled, Listed, graphOf, differencesOf}
+use Rattle.rows.specs.Table.{Tabled, Listed, graphOf, differencesOf}
 
 module _ (bytes graph differences : List ℕ) (number place : ℕ) (graph′ differences′ : List ℕ) where
   -- a sheet that reads is accepted, and its nodes and differences stand in the tables

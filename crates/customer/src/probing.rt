@@ -5,8 +5,8 @@ use probe::ReadAnswer;
 use probe::maps_cut;
 use probe::maps_has_cut;
 use probe::maps_read;
-use sheet::Differences;
-use sheet::Graph;
+use rows::Differences;
+use rows::Graph;
 
 // Reads a sheet into two tables.
 pub fn read_tables(sheet: &[u8], graph: &mut Graph, differences: &mut Differences) -> ReadAnswer

@@ -12,9 +12,9 @@ use lib.Dec.{eqb, ltb}
 use borrow.Author.Tests.{eq-eqb, ne-eqb, lt-ltb, le-ltb}
 use Rattle.maps.specs.Lists.{before}
 use Rattle.maps.proofs.Member.{or-right}
-use Rattle.cut.specs.Search.{bit, count, single, rising}
-use Rattle.cut.proofs.Bools.{and-yes, or-left}
-use Rattle.cut.proofs.Sums.{sum, sum-add, sum-one, sum-none}
+use Rattle.flow.specs.Search.{bit, count, single, rising}
+use Rattle.flow.proofs.Bools.{and-yes, or-left}
+use Rattle.flow.proofs.Sums.{sum, sum-add, sum-one, sum-none}
 
 -- a list whose elements ascend, from lo on and below hi
 unfoldable Ascends : ℕ → ℕ → List ℕ → Type 0

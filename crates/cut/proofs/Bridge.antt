@@ -14,14 +14,15 @@ use Rattle.maps.proofs.Over.{and-true, same-test}
 use Rattle.maps.proofs.Member.{All-at, All-of, any-found, any-of, keep-in, keep-out, mem-in, mem-out, below-in, below-out}
 use Rattle.maps.proofs.Enumerate.{Ordered, path-le}
 use Rattle.maps.proofs.Planned.{ordered}
-use Rattle.sheet.specs.Table.{countIn, operandIn, Falling}
+use Rattle.rows.specs.Table.{countIn, operandIn, Falling}
 use Rattle.cut.specs.Question.{AllowedCut, Fewest, Best, codeFor, Asked}
-use Rattle.cut.specs.Search.{cell, Leafy, Closed, Touch, Leaf, bit, Valued, Settled, Augmented, Final, member, leafMark, rising}
-use Rattle.cut.proofs.Bools.{bool, differ, bit-true, and-yes}
-use Rattle.cut.proofs.Sums.{sum, sum-tight, length-rising}
+use Rattle.rows.specs.Cells.{cell}
+use Rattle.flow.specs.Search.{Leafy, Closed, Touch, Leaf, bit, Valued, Settled, Augmented, Final, member, leafMark, rising}
+use Rattle.flow.proofs.Bools.{bool, differ, bit-true, and-yes}
+use Rattle.flow.proofs.Sums.{sum, sum-tight, length-rising}
 use Rattle.cut.proofs.Listing.{keep-rising, rising-same, rising-low}
-use Rattle.cut.proofs.Duality.{units-least}
-use Rattle.cut.proofs.Failed.{settled-closed, settled-root, leaf-mark, marks-size}
+use Rattle.flow.proofs.Duality.{units-least}
+use Rattle.flow.proofs.Failed.{settled-closed, settled-root, leaf-mark, marks-size}
 use Rattle.cut.proofs.Exchange.{final-first}
 use Rattle.cut.proofs.Joined.{joined, joined-root, joined-in, joined-le, joined-path, joined-whole}
 

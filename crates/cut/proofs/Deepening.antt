@@ -10,13 +10,14 @@ use native.Mathlib.Omega.{arith}
 use lib.ListN.{length, set, length-set}
 use lib.Seq.{getD-set-other}
 use borrow.Author.Tests.{eq-eqb, ne-eqb}
-use Rattle.sheet.specs.Table.{Falling}
-use Rattle.cut.specs.Search.{cell, bit, gate, count, Seen, Settled, Leaf, Excluded, Turned, within, held, grown, Final, member, leafMark, rising}
-use Rattle.cut.proofs.Bools.{bool, differ, out-no}
-use Rattle.cut.proofs.Marks.{member-yes, member-no}
-use Rattle.cut.proofs.Laws.{count-set}
-use Rattle.cut.proofs.Duality.{exclude}
-use Rattle.cut.proofs.Failed.{settle-more, settled-closed, settled-root, stay, cross-leaf, leaf-mark, mark-cross, marks-size, marks-have}
+use Rattle.rows.specs.Table.{Falling}
+use Rattle.rows.specs.Cells.{cell}
+use Rattle.flow.specs.Search.{bit, gate, count, Seen, Settled, Leaf, Excluded, Turned, within, held, grown, Final, member, leafMark, rising}
+use Rattle.flow.proofs.Bools.{bool, differ, out-no}
+use Rattle.flow.proofs.Marks.{member-yes, member-no}
+use Rattle.flow.proofs.Laws.{count-set}
+use Rattle.flow.proofs.Duality.{exclude}
+use Rattle.flow.proofs.Failed.{settle-more, settled-closed, settled-root, stay, cross-leaf, leaf-mark, mark-cross, marks-size, marks-have}
 
 -- an element at two places counts twice
 twice : (u i j : ℕ) (l : List ℕ) → i < length l → j < length l → ((i ≡ j) → ⊥) → cell l i ≡ u → cell l j ≡ u → 2 ≤ count u l

@@ -12,13 +12,13 @@ use borrow.Author.Tests.{lt-ltb, ltb-true}
 use Rattle.maps.specs.Lists.{before}
 use Rattle.maps.proofs.Over.{and-true}
 use Rattle.maps.proofs.Member.{or-true, or-right}
-use Rattle.sheet.specs.Table.{countIn, operandIn, Falling}
-use Rattle.cut.specs.Search.{Leafy, Closed, Touch, bit, count, Settled, Leaf, Excluded, Final, member, leafMark, rising}
-use Rattle.cut.proofs.Bools.{bool, differ, and-yes, or-left}
-use Rattle.cut.proofs.Sums.{sum, sum-count, mix, mix-low, mix-high, sum-mix, rising-bit}
+use Rattle.rows.specs.Table.{countIn, operandIn, Falling}
+use Rattle.flow.specs.Search.{Leafy, Closed, Touch, bit, count, Settled, Leaf, Excluded, Final, member, leafMark, rising}
+use Rattle.flow.proofs.Bools.{bool, differ, and-yes, or-left}
+use Rattle.flow.proofs.Sums.{sum, sum-count, mix, mix-low, mix-high, sum-mix, rising-bit}
 use Rattle.cut.proofs.Ascending.{first-rising}
-use Rattle.cut.proofs.Duality.{units-least}
-use Rattle.cut.proofs.Failed.{settled-closed, settled-root, marks-size, marks-have}
+use Rattle.flow.proofs.Duality.{units-least}
+use Rattle.flow.proofs.Failed.{settled-closed, settled-root, marks-size, marks-have}
 
 -- Let S be the final marks, with f leaves, and M any closed set for v with as few. No leaf of S is in M, as no closed set with f leaves holds v and
 -- that leaf. Fix an id b, and take of S the nodes that are in M or below b. This set is closed and holds v (`joined-closed`). A leaf of it below b

@@ -17,7 +17,7 @@ use Rattle.maps.specs.Cut.{reads, Path-to, end, edge}
 use Rattle.maps.proofs.Over.{and-true}
 use Rattle.maps.proofs.Member.{or-true, or-right, any-found, any-of, below-in}
 use Rattle.maps.proofs.Enumerate.{Ordered}
-use Rattle.cut.proofs.Bools.{and-yes, or-left}
+use Rattle.flow.proofs.Bools.{and-yes, or-left}
 
 -- the nodes of C within n steps of v
 reach : Sheet → (ℕ → Bool) → ℕ → ℕ → ℕ → Bool

@@ -1,11 +1,5 @@
-pub mod Bools
-pub mod Sums
 pub mod Ascending
-pub mod Laws
-pub mod Marks
 pub mod Listing
-pub mod Duality
-pub mod Failed
 pub mod Exchange
 pub mod Deepening
 pub mod Joined

@@ -1,3 +1,2 @@
 pub mod Question
-pub mod Search
 pub mod Quick

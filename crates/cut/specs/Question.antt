@@ -9,7 +9,7 @@ use Rattle.maps.specs.Lists.{All, before}
 use Rattle.maps.specs.Sheet.{Sheet, size}
 use Rattle.maps.specs.Cut.{Cone, cut, logicNode}
 use Rattle.maps.specs.WellFormed.{WellFormed}
-use Rattle.sheet.specs.Table.{Tabled}
+use Rattle.rows.specs.Table.{Tabled}
 
 module _ (S : Sheet) (may : ℕ → Bool) (v : ℕ) where
   -- the cut of a cone of v whose leaves are all allowed

@@ -4,12 +4,12 @@ ghost use mathlib.Core.Bool.{Bool, true};
 ghost use Prim.Native.Nat.{ℕ, _<_, _≤_};
 ghost use lib.ListN.{take};
 ghost use Rattle.maps.specs.Sheet.{Sheet};
-ghost use Rattle.sheet.specs.Table.{Falling};
+ghost use Rattle.rows.specs.Table.{Falling};
 ghost use Rattle.cut.specs.Question.{AllowedCut, Fewest, Asked};
 ghost use Rattle.cut.specs.Quick.{insideMark, InsideMarked, AllLeaves};
 use crate::search_cut;
 use cone::cut_fits;
-use sheet::Graph;
+use rows::Graph;
 
 // The mark of a node by its code: 1 if it must be inside.
 fn inside_mark(code: u8) -> u8

@@ -12,9 +12,9 @@ use lib.Seq.{getD-set-same, getD-set-other}
 use borrow.Author.Count.{below-none, below-more}
 use borrow.Author.Tests.{eq-eqb, ne-eqb, eqb-true, not-false}
 use Rattle.maps.proofs.Member.{zeros-at}
-use Rattle.sheet.specs.Table.{countIn, operandIn, latencyIn, toIn, Falling}
-use Rattle.cut.specs.Search.{zeros, Ends}
-use Rattle.cut.proofs.Laws.{zeros-mark}
+use Rattle.rows.specs.Table.{countIn, operandIn, latencyIn, toIn, Falling}
+use Rattle.rows.specs.Cells.{zeros, Ends}
+use Rattle.rows.proofs.Cells.{zeros-mark}
 use Rattle.hold.specs.Mark.{HeldIn, zero-in, operand-in, target-in, Floats, heldIn, OnlyHeld, HeldZero, More, Near, ByOperand, NodeHeld, HeldOperands, NodesHeld, HeldDifference, TargetHeld, Marked, Swept, AllMarked}
 
 -- ---- tests
@@ -32,6 +32,9 @@ pub not-both : {b : Bool} → b ≡ true → b ≡ false → ⊥
 not-both p q = let z : _≡_ {A = ℕ} 0 1 = cc in omega arith
 
 -- operand j of v, read as u with its ready step, holds v or does not
+pub not-marked : (graph steps held : List ℕ) (v j : ℕ) {u : ℕ} → u ≡ operandIn graph v j → heldIn held u ≡ false → Near graph steps held v j → ⊥
+not-marked graph steps held v j e h n = not-both (n .holds) (subst (λ (x : ℕ). heldIn held x ≡ false) e h)
+
 module _ (graph steps held : List ℕ) (v j : ℕ) {u ready own : ℕ} (e : u ≡ operandIn graph v j) (r : ready ≡ getD steps u 0 + latencyIn graph u)
     (o : own ≡ getD steps v 0) where
   there : ready ≡ getD steps (operandIn graph v j) 0 + latencyIn graph (operandIn graph v j)
@@ -42,9 +45,6 @@ module _ (graph steps held : List ℕ) (v j : ℕ) {u ready own : ℕ} (e : u �
 
   pub not-close : ready + 1 < own → Near graph steps held v j → ⊥
   not-close l n = let t = there in omega (arith, n .close)
-
-  pub not-marked : heldIn held u ≡ false → Near graph steps held v j → ⊥
-  not-marked h n = not-both (n .holds) (subst (λ (x : ℕ). heldIn held x ≡ false) e h)
 
 -- ---- one mark
 

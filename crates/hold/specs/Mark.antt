@@ -5,8 +5,8 @@ use mathlib.Core.Bool.{Bool, true, false, not}
 use mathlib.Core.List.{List}
 use lib.Dec.{eqb}
 use lib.ListN.{length, getD, set}
-use Rattle.sheet.specs.Table.{countIn, operandIn, latencyIn, fromIn, toIn, plusIn, minusIn}
-use Rattle.cut.specs.Search.{zeros, Ends}
+use Rattle.rows.specs.Table.{countIn, operandIn, latencyIn, fromIn, toIn, plusIn, minusIn}
+use Rattle.rows.specs.Cells.{zeros, Ends}
 
 -- the ready step of operand j of v is at most one step before v's
 abbrev pub Close : (graph steps : List ℕ) (v j : ℕ) → Type 0

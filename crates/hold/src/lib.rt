@@ -3,18 +3,18 @@
 ghost use mathlib.Core.Path.{_≡_};
 ghost use Prim.Native.Nat.{ℕ, _<_, _≤_};
 ghost use lib.ListN.{length};
-ghost use Rattle.sheet.specs.Table.{Falling};
+ghost use Rattle.rows.specs.Table.{Falling};
 ghost use Rattle.bound.specs.Lookup.{Soon};
 ghost use Rattle.bound.specs.Bound.{Summed};
 ghost use Rattle.hold.specs.Mark.{HeldZero, ByOperand, NodeHeld, NodesHeld, TargetHeld, Swept, AllMarked, Floats};
 use bound::Steps;
 use bound::ready_step;
 use bound::step_of;
-use sheet::Differences;
-use sheet::Graph;
-use sheet::count_in;
-use sheet::difference_in;
-use sheet::operand_in;
+use rows::Differences;
+use rows::Graph;
+use rows::count_in;
+use rows::difference_in;
+use rows::operand_in;
 
 // Holds the nodes of step 0, and no other.
 pub fn hold_step_0(steps: &Steps, held: &mut [u8; 256], n: u32)
@@ -44,8 +44,8 @@ pub fn held_by_operand(graph: &Graph, steps: &Steps, held: &[u8; 256], v: u32) -
     let mut j: u32 = 0;
     while j < count {
         let u = operand_in(graph, v, j);
-        let ready = ready_step(graph, steps, u);
         if held[u as usize] != 0 {
+            let ready = ready_step(graph, steps, u);
             if own.0 <= ready.0 + 1 {
                 return true;
             }
@@ -93,16 +93,16 @@ pub fn hold_target(differences: &Differences, steps: &Steps, held: &mut [u8; 256
     let d = difference_in(differences, i);
     let u = d.from;
     let v = d.to;
-    let from = step_of(steps, u);
-    let to = step_of(steps, v);
-    let ahead = from.0 + d.plus;
-    let behind = to.0 + d.minus;
     if held[u as usize] == 0 {
         return false;
     }
     if held[v as usize] != 0 {
         return false;
     }
+    let from = step_of(steps, u);
+    let to = step_of(steps, v);
+    let ahead = from.0 + d.plus;
+    let behind = to.0 + d.minus;
     if ahead < behind {
         return false;
     }

@@ -18,12 +18,12 @@ use Rattle.maps.proofs.Over.{last-or}
 use Rattle.maps.proofs.Member.{everywhere, keep-append}
 use Rattle.maps.proofs.Enumerate.{clash, complete, sound}
 use Rattle.maps.proofs.Planned.{ordered}
-use Rattle.sheet.specs.Table.{kindAt, Tabled}
-use Rattle.sheet.proofs.Tables.{kind-tabled}
+use Rattle.rows.specs.Table.{kindAt, Tabled}
+use Rattle.rows.proofs.Tables.{kind-tabled}
 use Rattle.cut.specs.Question.{codeFor, Asked}
-use Rattle.cut.specs.Search.{Ends}
-use Rattle.cut.proofs.Listing.{filled-more}
-use Rattle.cut.proofs.Laws.{succeeded, failed}
+use Rattle.rows.specs.Cells.{Ends}
+use Rattle.rows.proofs.Cells.{filled-more}
+use Rattle.rows.proofs.Cells.{succeeded, failed}
 use Rattle.bound.specs.Lookup.{Beside}
 use Rattle.bound.specs.Going.{Keeps}
 use Rattle.level.specs.Cuts.{TriedCut, FitTest, Lowest}

@@ -11,11 +11,11 @@ use Rattle.maps.specs.Sheet.{Sheet, Kind, isLogic, logic, node, size, latency}
 use Rattle.maps.specs.Cut.{cut}
 use Rattle.maps.proofs.Order.{leq-true, ≼-leq}
 use Rattle.maps.proofs.Member.{All-at, All-of, All-get}
-use Rattle.sheet.specs.Table.{kindAt, delayIn, latencyIn}
-use Rattle.sheet.specs.declared.reader.Header as R
-use Rattle.sheet.proofs.Tables.{kind-tabled}
+use Rattle.rows.specs.Table.{kindAt, delayIn, latencyIn}
+use Rattle.rows.specs.declared.Header as R
+use Rattle.rows.proofs.Tables.{kind-tabled}
 use Rattle.cut.specs.Question.{codeFor, Asked}
-use Rattle.cut.proofs.Listing.{filled-more}
+use Rattle.rows.proofs.Cells.{filled-more}
 use Rattle.maps.specs.Legal.{arrives}
 use Rattle.relax.proofs.Forced.{leaf-read}
 use Rattle.bound.specs.Lookup.{labelIn, arrivalIn}

@@ -13,8 +13,8 @@ use Rattle.maps.specs.Sheet.{Sheet, node}
 use Rattle.maps.proofs.Member.{All-ids}
 use Rattle.maps.proofs.Fix.{label-path}
 use Rattle.maps.proofs.Planned.{delays}
-use Rattle.sheet.specs.Table.{delayIn}
-use Rattle.sheet.specs.declared.reader.Header as R
+use Rattle.rows.specs.Table.{delayIn}
+use Rattle.rows.specs.declared.Header as R
 use Rattle.relax.specs.Guard.{Forced}
 use Rattle.maps.specs.Legal.{arrives, CutBy}
 use Rattle.relax.specs.Settle.{Settles, Pass}

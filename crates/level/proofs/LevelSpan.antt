@@ -13,8 +13,8 @@ use Rattle.maps.specs.Cut.{cut}
 use Rattle.maps.proofs.Member.{All-of, All-get}
 use Rattle.maps.proofs.Planned.{ordered}
 use Rattle.maps.proofs.UsedNodes.{leaf-below}
-use Rattle.sheet.specs.Table.{delayIn}
-use Rattle.sheet.specs.declared.reader.Header as R
+use Rattle.rows.specs.Table.{delayIn}
+use Rattle.rows.specs.declared.Header as R
 use Rattle.relax.specs.Guard.{Forced}
 use Rattle.relax.proofs.Closed.{well-closed}
 use Rattle.relax.proofs.Forced.{forced-level}

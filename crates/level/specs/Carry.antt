@@ -8,8 +8,8 @@ use Rattle.maps.specs.Label.{Label, label, leq, _≼_}
 use Rattle.maps.specs.Sheet.{Sheet, size, isLogic}
 use Rattle.maps.specs.Cut.{logicNode}
 use Rattle.maps.specs.WellFormed.{WellFormed}
-use Rattle.sheet.specs.Table.{kindAt, delayIn, Tabled}
-use Rattle.sheet.specs.declared.reader.Header as R
+use Rattle.rows.specs.Table.{kindAt, delayIn, Tabled}
+use Rattle.rows.specs.declared.Header as R
 use Rattle.cut.specs.Question.{codeFor}
 use Rattle.relax.specs.Guard.{Forced}
 use Rattle.bound.specs.Lookup.{labelIn, arrivalIn, Soon, countOf, leafOf}

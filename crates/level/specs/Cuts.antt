@@ -8,9 +8,9 @@ use Rattle.maps.specs.Sheet.{Sheet, size}
 use Rattle.maps.specs.Cut.{logicNode, FittingCut}
 use Rattle.maps.specs.WellFormed.{WellFormed}
 use Rattle.maps.specs.Outcome.{cutless}
-use Rattle.sheet.specs.Table.{Tabled}
+use Rattle.rows.specs.Table.{Tabled}
 use Rattle.cut.specs.Question.{AllowedCut}
-use Rattle.cut.specs.Search.{Ends}
+use Rattle.rows.specs.Cells.{Ends}
 use Rattle.bound.specs.Lookup.{countOf, leafOf, Row, Beside}
 use Rattle.bound.specs.Going.{Keeps, AllKept}
 

@@ -4,8 +4,8 @@ use mathlib.Core.Bool.{Bool}
 use mathlib.Core.List.{List}
 use Rattle.maps.specs.Label.{Label, label}
 use Rattle.maps.specs.Sheet.{Sheet}
-use Rattle.sheet.specs.declared.reader.Header as R
-use Rattle.cut.specs.Search.{Ends}
+use Rattle.rows.specs.declared.Header as R
+use Rattle.rows.specs.Cells.{Ends}
 use Rattle.relax.specs.Guard.{Forced}
 use Rattle.maps.specs.Legal.{CutBy}
 use Rattle.bound.specs.Lookup.{labelIn, Beside}

@@ -4,15 +4,15 @@ ghost use mathlib.Core.Bool.{Bool, true, false};
 ghost use Prim.Native.Nat.{ℕ, _<_, _≤_};
 ghost use lib.ListN.{getD, length};
 ghost use Rattle.maps.specs.Sheet.{Sheet, isLogic};
-ghost use Rattle.sheet.specs.Table.{kindAt, Falling};
+ghost use Rattle.rows.specs.Table.{kindAt, Falling};
 ghost use Rattle.cut.specs.Question.{codeFor, Asked};
 ghost use Rattle.bound.specs.Lookup.{countOf, leafOf, Beside};
 ghost use Rattle.level.specs.Cuts.{Stored, TriedCut, FitTest, Lowest};
 use cut::ask;
 use cut::code_for;
 use maps::Kind;
-use sheet::Graph;
-use sheet::kind_in;
+use rows::Graph;
+use rows::kind_in;
 
 // A row for each of 256 nodes: how many leaves its cut has, then the leaves.
 pub type Cuts = [u32; 2048];

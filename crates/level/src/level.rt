@@ -6,7 +6,7 @@ ghost use lib.ListN.{length};
 ghost use Rattle.maps.specs.Label.{leq};
 ghost use Rattle.maps.specs.Code.{labelOf};
 ghost use Rattle.maps.specs.Sheet.{Sheet, isLogic};
-ghost use Rattle.sheet.specs.Table.{kindAt, delayIn, Falling};
+ghost use Rattle.rows.specs.Table.{kindAt, delayIn, Falling};
 ghost use Rattle.cut.specs.Question.{codeFor};
 ghost use Rattle.relax.specs.Settle.{Settles, Pass};
 ghost use Rattle.bound.specs.Lookup.{labelIn, arrivalIn, countOf, leafOf, Soon, Beside};
@@ -26,10 +26,10 @@ use cut::code_for;
 use maps::Label;
 use maps::Level;
 use maps::Step;
-use sheet::Graph;
-use sheet::Header;
-use sheet::delay_in;
-use sheet::kind_in;
+use rows::Graph;
+use rows::Header;
+use rows::delay_in;
+use rows::kind_in;
 
 // The levels that are left to ask about, and how far from the high end the next question is.
 pub struct Span {

@@ -1,20 +1,17 @@
-// Numbers of a sheet, read at a cursor, and the ranges of the fields that they fill.
+// Numbers of a sheet, read at a cursor.
 ghost use mathlib.Core.Path.{_≡_};
 ghost use lib.ListN.{length};
 ghost use Rattle.maps.specs.Number.{number, refusal};
 ghost use Rattle.maps.specs.Read.{inRange, operand};
 ghost use Rattle.number.specs.Code.{numberMeant};
-ghost use Rattle.number.specs.Ranges.{spanMeant, fieldRange};
+ghost use Rattle.ranges.specs.Ranges.{spanMeant, fieldRange};
 use maps::Refusal;
+use ranges::Field;
+use ranges::Span;
+use ranges::range_of;
 
-mod ranges;
 mod reader;
 
-pub use ranges::Field;
-pub use ranges::Ranges;
-pub use ranges::Span;
-pub use ranges::range_of;
-pub use ranges::ranges_of;
 pub use reader::Reader;
 pub use reader::next_number;
 pub use reader::read_number;

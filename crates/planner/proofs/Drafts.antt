@@ -20,8 +20,8 @@ use Rattle.maps.specs.Outcome.{refusal, within, timed, cutless, covered, parsed
 use Rattle.maps.proofs.Member.{All-of, below-out}
 use Rattle.maps.proofs.Over.{getD-over}
 use Rattle.maps.proofs.Enumerate.{clash}
-use Rattle.sheet.specs.Code.{headerMeant}
-use Rattle.sheet.specs.declared.reader.Header as R
+use Rattle.rows.specs.Code.{headerMeant}
+use Rattle.rows.specs.declared.Header as R
 use Rattle.sheet.proofs.After.{Held}
 use Rattle.relax.proofs.Closed.{ready-step}
 use Rattle.bound.specs.Lookup.{labelIn, labelsIn, Soon}

@@ -8,9 +8,10 @@ ghost use Rattle.maps.specs.Legal.{Legal};
 ghost use Rattle.maps.specs.Least.{at, leastLabels};
 ghost use Rattle.maps.specs.Plan.{plan};
 ghost use Rattle.maps.specs.Outcome.{timed, cutless, covered, within, outcome};
-ghost use Rattle.sheet.specs.Table.{Falling};
+ghost use Rattle.rows.specs.Table.{Falling};
 ghost use Rattle.bound.specs.Lookup.{labelsIn};
 ghost use Rattle.bound.specs.Going.{Given, AllKept};
+ghost use Rattle.writing.specs.Writing.{planRoom};
 ghost use Rattle.planner.specs.Call.{Made, Short, madeMeant, Answered, plannedNumber, plannedPlace};
 use bound::Levels;
 use bound::Steps;
@@ -18,13 +19,14 @@ use cover::cover;
 use level::Cuts;
 use level::lowest_cutless;
 use maps::Refusal;
+use rows::Differences;
+use rows::Graph;
+use rows::Header;
 use schedule::latency;
 use schedule::least_labels;
-use sheet::Differences;
-use sheet::Graph;
-use sheet::Header;
 use sheet::Reading;
 use sheet::read_sheet;
+use writing::PlanBytes;
 use writing::write_plan;
 
 // A plan of so many bytes, or why there is none.
@@ -45,13 +47,14 @@ pub fn plan_labels(
     limits: Header,
     steps: &Steps,
     levels: &Levels,
-    bytes: &mut [u8; 8192],
+    bytes: &mut PlanBytes,
 ) -> usize
     requires { ⌜ Falling (now graph) ⌝ }
     requires { ⌜ ((S : Sheet) × (differences : List ℕ) × Given S (now graph) differences limits × Legal S (at (labelsIn (size S) (now steps) (now levels))) (S .horizon)) ⌝ }
+    requires { ⌜ length (now bytes) ≡ planRoom ⌝ }
     ensures { λ r. ⌜ ((S : Sheet) (differences : List ℕ) → Given S (now (graph .entry)) differences limits → Legal S (at (labelsIn (size S) (now (steps .entry)) (now (levels .entry)))) (S .horizon)
         → take r (now (bytes .exit)) ≡ plan S (labelsIn (size S) (now (steps .entry)) (now (levels .entry)))) ⌝ }
-    ensures { λ r. ⌜ r ≤ 8192 ⌝ }
+    ensures { λ r. ⌜ r ≤ planRoom ⌝ }
 {
     let mut used = [0u8; 256];
     let mut cuts = [0u32; 2048];
@@ -66,10 +69,11 @@ pub fn plan_kept(
     differences: &Differences,
     limits: Header,
     kept: &mut Cuts,
-    bytes: &mut [u8; 8192],
+    bytes: &mut PlanBytes,
 ) -> Draft
     requires { ⌜ Falling (now graph) ⌝ }
     requires { ⌜ ((S : Sheet) × Given S (now graph) (now differences) limits × AllKept S (now kept) × (cutless S ≡ [])) ⌝ }
+    requires { ⌜ length (now bytes) ≡ planRoom ⌝ }
     ensures { λ r. ⌜ ((S : Sheet) → Given S (now (graph .entry)) (now (differences .entry)) limits → AllKept S (now (kept .entry)) → cutless S ≡ []
         → (room : ℕ) → timed S room (leastLabels S) ≡ madeMeant (now (bytes .exit)) r room) ⌝ }
     ensures { λ r. ⌜ Short r ⌝ }
@@ -88,10 +92,11 @@ pub fn plan_tables(
     graph: &Graph,
     differences: &Differences,
     limits: Header,
-    bytes: &mut [u8; 8192],
+    bytes: &mut PlanBytes,
 ) -> Draft
     requires { ⌜ Falling (now graph) ⌝ }
     requires { ⌜ ((S : Sheet) × Given S (now graph) (now differences) limits) ⌝ }
+    requires { ⌜ length (now bytes) ≡ planRoom ⌝ }
     ensures { λ r. ⌜ ((S : Sheet) → Given S (now (graph .entry)) (now (differences .entry)) limits
         → (room : ℕ) → covered S room (cutless S) ≡ madeMeant (now (bytes .exit)) r room) ⌝ }
     ensures { λ r. ⌜ Short r ⌝ }
@@ -105,7 +110,8 @@ pub fn plan_tables(
 }
 
 // Makes the plan of a sheet, whatever the room.
-pub fn make_plan(sheet: &[u8], bytes: &mut [u8; 8192]) -> Draft
+pub fn make_plan(sheet: &[u8], bytes: &mut PlanBytes) -> Draft
+    requires { ⌜ length (now bytes) ≡ planRoom ⌝ }
     ensures { λ r. ⌜ Made (now (sheet .entry)) (now (bytes .exit)) r ⌝ }
     ensures { λ r. ⌜ Short r ⌝ }
 {
@@ -146,7 +152,7 @@ pub fn hand_over(bytes: &[u8], buffer: &mut [u8], n: usize) -> Planned
 pub fn plan(sheet: &[u8], buffer: &mut [u8]) -> Planned
     ensures { λ r. ⌜ Answered (outcome (now (sheet .entry)) (length (now (buffer .entry)))) (plannedNumber r) (plannedPlace r) (now (buffer .entry)) (now (buffer .exit)) ⌝ }
 {
-    let mut bytes = [0u8; 8192];
+    let mut bytes = [0u8; 5122];
     let draft = make_plan(sheet, &mut bytes);
     match draft {
         Draft::Refused(why) => Planned::Refused(why),

@@ -10,9 +10,9 @@ use Rattle.maps.specs.Cut.{logicNode}
 use Rattle.maps.specs.Read.{Header, sheet, refused, parse}
 use Rattle.maps.proofs.Enumerate.{clash}
 use Rattle.maps.proofs.Chosen.{ahead-antisym}
-use Rattle.sheet.specs.Table.{kindAt}
+use Rattle.rows.specs.Table.{kindAt}
 use Rattle.sheet.proofs.After.{Held}
-use Rattle.sheet.proofs.Tables.{kind-tabled}
+use Rattle.rows.proofs.Tables.{kind-tabled}
 use Rattle.cut.specs.Question.{codeFor, AllowedCut, Asked, Fewest, Best}
 use Rattle.probe.specs.Probe.{allowedIn, Coded, Asks, Prepared, NoneWithin, HasCut, has, lacks, unasked, padded, CutAnswer, chosen, none, outside}
 

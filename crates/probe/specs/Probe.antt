@@ -8,7 +8,7 @@ use lib.ListN.{length, getD, replicate}
 use Rattle.maps.specs.Sheet.{Sheet, size, isLogic}
 use Rattle.maps.specs.Cut.{logicNode}
 use Rattle.maps.specs.Read.{parse, sheet}
-use Rattle.sheet.specs.Table.{kindAt, Falling}
+use Rattle.rows.specs.Table.{kindAt, Falling}
 use Rattle.cut.specs.Question.{codeFor, AllowedCut, Best, Asked}
 
 -- u is allowed: its byte is not 0

@@ -8,9 +8,9 @@ use cut::ask;
 use cut::choose;
 use cut::code_for;
 use maps::Kind;
-use sheet::Graph;
+use rows::Graph;
+use rows::kind_in;
 use sheet::Reading;
-use sheet::kind_in;
 use sheet::read_sheet;
 
 // The codes of the nodes below v, and of v.

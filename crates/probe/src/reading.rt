@@ -1,9 +1,9 @@
 // Reading a sheet into two tables, which a refusal leaves as they were.
 ghost use mathlib.Core.Path.{_≡_};
 ghost use Rattle.maps.specs.Read.{parse};
-ghost use Rattle.sheet.specs.Table.{readAfter, answerNumber, answerPlace};
-use sheet::Differences;
-use sheet::Graph;
+ghost use Rattle.sheet.specs.Answer.{readAfter, answerNumber, answerPlace};
+use rows::Differences;
+use rows::Graph;
 use sheet::Reading;
 use sheet::read_sheet;
 

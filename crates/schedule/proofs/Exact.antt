@@ -10,7 +10,7 @@ use Rattle.maps.specs.Least.{at, Labels, late, least, leastLabels, Answer, none
 use Rattle.maps.specs.WellFormed.{WellFormed}
 use Rattle.maps.specs.Outcome.{cutless}
 use Rattle.maps.proofs.Planned.{least-right}
-use Rattle.cut.specs.Search.{Ends}
+use Rattle.rows.specs.Cells.{Ends}
 
 -- what the definition's answer says
 abbrev Says : Sheet → Labels → Type 0

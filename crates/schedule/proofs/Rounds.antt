@@ -24,10 +24,10 @@ use Rattle.maps.proofs.Over.{total, length-over, getD-over}
 use Rattle.maps.proofs.Member.{zeros-at, All-at, All-of, All-ids, All-get, mem-in, mem-out, index-mem, below-out}
 use Rattle.maps.proofs.Fix.{key, label-path, is-least, is-late}
 use Rattle.maps.proofs.Planned.{delays, operands-below, least-right}
-use Rattle.sheet.specs.Table.{delayIn, latencyIn, operandIn, fromIn, noDifference, differenceAt, Tabled}
-use Rattle.sheet.specs.declared.reader.Header as R
-use Rattle.cut.specs.Search.{Ends}
-use Rattle.cut.proofs.Listing.{filled-more}
+use Rattle.rows.specs.Table.{delayIn, latencyIn, operandIn, fromIn, noDifference, differenceAt, Tabled}
+use Rattle.rows.specs.declared.Header as R
+use Rattle.rows.specs.Cells.{Ends}
+use Rattle.rows.proofs.Cells.{filled-more}
 use Rattle.relax.specs.Guard.{Kept}
 use Rattle.relax.specs.Settle.{Pass, Passing}
 use Rattle.relax.specs.Hold.{Held, at-zero, by-operand, by-difference}

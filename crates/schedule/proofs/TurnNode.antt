@@ -15,9 +15,9 @@ use Rattle.maps.specs.Cut.{logicNode}
 use Rattle.maps.specs.WellFormed.{WellFormed}
 use Rattle.maps.proofs.Member.{All-of, All-ids, All-get}
 use Rattle.maps.proofs.Planned.{delays, operands-below}
-use Rattle.sheet.specs.Table.{kindAt, delayIn, countIn, operandIn}
-use Rattle.sheet.specs.declared.reader.Header as R
-use Rattle.sheet.proofs.Tables.{kind-tabled}
+use Rattle.rows.specs.Table.{kindAt, delayIn, countIn, operandIn}
+use Rattle.rows.specs.declared.Header as R
+use Rattle.rows.proofs.Tables.{kind-tabled}
 use Rattle.relax.specs.Guard.{Forced}
 use Rattle.maps.specs.Legal.{arrives}
 use Rattle.relax.specs.Settle.{By, Settles, Pass}

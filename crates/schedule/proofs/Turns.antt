@@ -14,8 +14,8 @@ use Rattle.maps.specs.Code.{fitted}
 use Rattle.maps.specs.Sheet.{Sheet, size, latency}
 use Rattle.maps.specs.Legal.{NoneLegal}
 use Rattle.maps.proofs.Fix.{label-path}
-use Rattle.sheet.specs.Table.{latencyIn}
-use Rattle.sheet.specs.declared.reader.Header as R
+use Rattle.rows.specs.Table.{latencyIn}
+use Rattle.rows.specs.declared.Header as R
 use Rattle.relax.specs.Guard.{Raised}
 use Rattle.relax.specs.Settle.{Settles, Pass, Passing, onward}
 use Rattle.relax.proofs.Closed.{ready-step}

@@ -7,9 +7,9 @@ use lib.ListN.{length, getD}
 use Rattle.maps.specs.Limits.{weightMost}
 use Rattle.maps.specs.Sheet.{Sheet}
 use Rattle.maps.specs.Legal.{Least, NoneLegal}
-use Rattle.sheet.specs.Table.{delayIn, latencyIn}
-use Rattle.sheet.specs.declared.reader.Header as R
-use Rattle.cut.specs.Search.{Ends}
+use Rattle.rows.specs.Table.{delayIn, latencyIn}
+use Rattle.rows.specs.declared.Header as R
+use Rattle.rows.specs.Cells.{Ends}
 use Rattle.relax.specs.Settle.{Pass}
 use Rattle.bound.specs.Lookup.{labelIn}
 use Rattle.bound.specs.Going.{Going}

@@ -7,8 +7,8 @@ use lib.ListN.{set}
 use Rattle.maps.specs.Label.{Label}
 use Rattle.maps.specs.Sheet.{Sheet, size}
 use Rattle.maps.specs.Legal.{NoneLegal}
-use Rattle.sheet.specs.declared.reader.Header as R
-use Rattle.cut.specs.Search.{Ends}
+use Rattle.rows.specs.declared.Header as R
+use Rattle.rows.specs.Cells.{Ends}
 use Rattle.relax.specs.Settle.{Settles, Pass, Passing}
 use Rattle.bound.specs.Lookup.{labelIn}
 use Rattle.bound.specs.Going.{AllKept, Going}

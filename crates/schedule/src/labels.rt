@@ -6,8 +6,8 @@ ghost use Rattle.maps.specs.Sheet.{Sheet, size};
 ghost use Rattle.maps.specs.Legal.{latencyOfAll};
 ghost use Rattle.maps.specs.Least.{at, leastLabels, late, least};
 ghost use Rattle.maps.specs.Outcome.{cutless};
-ghost use Rattle.sheet.specs.Table.{Tabled};
-ghost use Rattle.cut.specs.Search.{Ends};
+ghost use Rattle.rows.specs.Table.{Tabled};
+ghost use Rattle.rows.specs.Cells.{Ends};
 ghost use Rattle.bound.specs.Lookup.{labelsIn, Soon};
 ghost use Rattle.bound.specs.Going.{Given, AllKept};
 ghost use Rattle.schedule.specs.Turn.{Underway, Onward};
@@ -24,11 +24,11 @@ use hold::floats;
 use level::Cuts;
 use maps::Label;
 use maps::Step;
-use sheet::Differences;
-use sheet::Graph;
-use sheet::Header;
-use sheet::delay_in;
-use sheet::latency_in;
+use rows::Differences;
+use rows::Graph;
+use rows::Header;
+use rows::delay_in;
+use rows::latency_in;
 
 // What a round comes to.
 pub enum Turn {

@@ -1,8 +1,7 @@
 // A pass: every node in id order gets the least label that its conditions and the present labels force.
 ghost use Prim.Native.Nat.{ℕ, _+_, _<_, _≤_};
 ghost use Rattle.maps.specs.Code.{labelOf};
-ghost use Rattle.maps.specs.Sheet.{Sheet};
-ghost use Rattle.cut.specs.Search.{Ends};
+ghost use Rattle.rows.specs.Cells.{Ends};
 ghost use Rattle.bound.specs.Bound.{Summed, HoldsAt};
 ghost use Rattle.schedule.specs.Turn.{Underway, Onward, SettledNode, Turned, Passed};
 use bound::Levels;
@@ -16,12 +15,12 @@ use level::table_label;
 use maps::Kind;
 use maps::Label;
 use maps::Level;
-use sheet::Differences;
-use sheet::Graph;
-use sheet::Header;
-use sheet::difference_in;
-use sheet::kind_in;
-use sheet::latency_in;
+use rows::Differences;
+use rows::Graph;
+use rows::Header;
+use rows::difference_in;
+use rows::kind_in;
+use rows::latency_in;
 
 // The label of v in its turn.
 pub fn node_label(

@@ -7,11 +7,12 @@ use Rattle.maps.specs.Sheet.{Sheet}
 use Rattle.maps.specs.Read.{Header, Parsed, sheet, refused, parse}
 use Rattle.maps.specs.WellFormed.{WellFormed}
 use Rattle.maps.proofs.Parse.{parse-well}
-use Rattle.sheet.specs.Table.{headerOf, header, Tables, tables, readAfter, Tabled, Listed, Falling}
+use Rattle.rows.specs.Table.{headerOf, Tabled, Listed, Falling}
+use Rattle.sheet.specs.Answer.{header, Tables, tables, readAfter}
 use Rattle.sheet.specs.Fill.{readInto}
-use Rattle.sheet.specs.Table as Table
+use Rattle.sheet.specs.Answer as Answers
 use Rattle.sheet.proofs.Reading.{read-whole, read-refused}
-use Rattle.sheet.proofs.Tables.{tabled, listed, falling}
+use Rattle.rows.proofs.Tables.{tabled, listed, falling}
 
 -- the bytes are a sheet, which the header and the tables hold
 pub record Held (bytes graph differences : List ℕ) (h : Header) : Type 0 where
@@ -42,9 +43,9 @@ module _ (bytes g d : List ℕ) where
           }
       go (refused k p) q f = let z : _≡_ {A = ℕ} 0 1 = cc (ap (λ (t : Tables). t .answer) f) in absurd (omega arith)
 
-  pub was-refused : (k p : ℕ) → tables (Table.refusal k p) g d ≡ readInto bytes → parse bytes ≡ refused k p
+  pub was-refused : (k p : ℕ) → tables (Answers.refusal k p) g d ≡ readInto bytes → parse bytes ≡ refused k p
   was-refused k p e = go (parse bytes) refl (read-refused bytes _ g d e k p refl [] [])
     where
-      go : (x : Parsed) → parse bytes ≡ x → tables (Table.refusal k p) [] [] ≡ readAfter x [] [] → parse bytes ≡ refused k p
+      go : (x : Parsed) → parse bytes ≡ x → tables (Answers.refusal k p) [] [] ≡ readAfter x [] [] → parse bytes ≡ refused k p
       go (sheet S) q f = let z : _≡_ {A = ℕ} 0 1 = cc (ap (λ (t : Tables). t .answer) f) in absurd (omega arith)
       go (refused j r) q f = cc (q, ap (λ (t : Tables). t .answer) f)

@@ -1,6 +1,3 @@
-pub mod Stores
 pub mod Turns
 pub mod Reading
-pub mod StoredRows
-pub mod Tables
 pub mod After

@@ -10,8 +10,9 @@ use Rattle.maps.specs.Number.{Got, got, refusal, Reader, andThen}
 use Rattle.maps.specs.Sheet.{Sheet, Node, Difference}
 use Rattle.maps.specs.Read.{operand, eachFrom, times, Head, nodeOf, readHead, readNode, readDifference, Header, readHeader, sheetOf, readSheet, Parsed, sheet, refused, whole, parse}
 use Rattle.maps.proofs.Parse.{counted}
-use Rattle.sheet.specs.Table.{nodeRow, headRow, differenceRow, storeFrom, storeRows, nodePlace, operandPlace, differencePlace, noNodes, noDifferences, graphOf, differencesOf, headerOf, Answer, header, answerNumber, answerPlace, Tables, tables, readAfter}
-use Rattle.sheet.specs.Table as Table
+use Rattle.rows.specs.Table.{nodeRow, headRow, differenceRow, storeFrom, storeRows, nodePlace, operandPlace, differencePlace, noNodes, noDifferences, graphOf, differencesOf, headerOf}
+use Rattle.sheet.specs.Answer.{Answer, header, answerNumber, answerPlace, Tables, tables, readAfter}
+use Rattle.sheet.specs.Answer as Answers
 use Rattle.sheet.specs.Fill.{Filled, filled, gotOn, fillOn, repeatInto, operandInto, operandsInto, nodeInto, nodesInto, differenceInto, differencesInto, tablesInto, readInto}
 
 -- a table is filled as a reader reads: both end alike, and where they go on the table is what `put` makes of the value
@@ -102,13 +103,13 @@ module _ (s : List ℕ) where
 -- what reading into tables of zeros leaves, against what the definition reads
 data Tied : Parsed → Tables → Type 0 where
   read : {S : Sheet} → Tied (sheet S) (tables (header (headerOf S)) (graphOf S) (differencesOf S))
-  none : {k p : ℕ} {g d : List ℕ} → Tied (refused k p) (tables (Table.refusal k p) g d)
+  none : {k p : ℕ} {g d : List ℕ} → Tied (refused k p) (tables (Answers.refusal k p) g d)
 
 module _ (s : List ℕ) where
   -- ground 5, or the sheet
   ended : (h : Header) (vs : List Node) (ds : List Difference) (last : ℕ) → length vs ≡ h .nodes → length ds ≡ h .differences
       → Tied (whole s (got (sheetOf h vs ds) last))
-      (tables (cond (ltb last (length s)) (Table.refusal 5 last) (header h))
+      (tables (cond (ltb last (length s)) (Answers.refusal 5 last) (header h))
       (storeRows nodePlace noNodes 0 (map nodeRow vs)) (storeRows differencePlace noDifferences 0 (map differenceRow ds)))
   unfolding graphOf differencesOf
   ended h vs ds last ev ed = go (ltb last (length s))
@@ -117,7 +118,7 @@ module _ (s : List ℕ) where
       same = λ i. record { leaves = h .leaves; top = h .top; horizon = h .horizon; nodes = ev i; differences = ed i }
 
       go : (b : Bool) → Tied (cond b (refused 5 last) (sheet (sheetOf h vs ds)))
-          (tables (cond b (Table.refusal 5 last) (header h)) (storeRows nodePlace noNodes 0 (map nodeRow vs)) (storeRows differencePlace noDifferences 0 (map differenceRow ds)))
+          (tables (cond b (Answers.refusal 5 last) (header h)) (storeRows nodePlace noNodes 0 (map nodeRow vs)) (storeRows differencePlace noDifferences 0 (map differenceRow ds)))
       go true = none
       go false =
           subst (λ (k : Header). Tied (sheet (sheetOf h vs ds)) (tables (header k) (graphOf (sheetOf h vs ds)) (differencesOf (sheetOf h vs ds)))) same read
@@ -126,8 +127,8 @@ module _ (s : List ℕ) where
       → times (h .differences) (readDifference (h .nodes)) s next ≡ x
       → Fills (λ ds. storeRows differencePlace noDifferences 0 (map differenceRow ds)) x t
       → Tied (whole s (andThen x (λ ds last. got (sheetOf h vs ds) last)))
-      (gotOn (t .end) (λ k p. tables (Table.refusal k p) (storeRows nodePlace noNodes 0 (map nodeRow vs)) (t .table))
-      (λ w last. tables (cond (ltb last (length s)) (Table.refusal 5 last) (header h)) (storeRows nodePlace noNodes 0 (map nodeRow vs)) (t .table)))
+      (gotOn (t .end) (λ k p. tables (Answers.refusal k p) (storeRows nodePlace noNodes 0 (map nodeRow vs)) (t .table))
+      (λ w last. tables (cond (ltb last (length s)) (Answers.refusal 5 last) (header h)) (storeRows nodePlace noNodes 0 (map nodeRow vs)) (t .table)))
   unfolding gotOn
   after-nodes h vs next ev (got ds last) t e went = ended h vs ds last ev (counted _ _ _ s next ds last e)
   after-nodes h vs next ev (refusal k p) t e stopped = none
@@ -135,10 +136,10 @@ module _ (s : List ℕ) where
   after-header : (h : Header) (at : ℕ) (x : Got (List Node)) (t : Filled) → eachFrom (readNode (h .top)) 0 (h .nodes) s at ≡ x
       → Fills (λ vs. storeRows nodePlace noNodes 0 (map nodeRow vs)) x t
       → Tied (whole s (andThen x (λ vs next. andThen (times (h .differences) (readDifference (h .nodes)) s next) (λ ds last. got (sheetOf h vs ds) last))))
-      (gotOn (t .end) (λ k p. tables (Table.refusal k p) (t .table) noDifferences) (λ u next.
+      (gotOn (t .end) (λ k p. tables (Answers.refusal k p) (t .table) noDifferences) (λ u next.
       gotOn (differencesInto s (h .nodes) (h .differences) next noDifferences .end)
-      (λ k p. tables (Table.refusal k p) (t .table) (differencesInto s (h .nodes) (h .differences) next noDifferences .table))
-      (λ w last. tables (cond (ltb last (length s)) (Table.refusal 5 last) (header h)) (t .table) (differencesInto s (h .nodes) (h .differences) next noDifferences .table))))
+      (λ k p. tables (Answers.refusal k p) (t .table) (differencesInto s (h .nodes) (h .differences) next noDifferences .table))
+      (λ w last. tables (cond (ltb last (length s)) (Answers.refusal 5 last) (header h)) (t .table) (differencesInto s (h .nodes) (h .differences) next noDifferences .table))))
   unfolding gotOn
   after-header h at (got vs next) t e went =
       after-nodes h vs next (counted _ _ _ s at vs next e) _ _ refl (differences-filled s (h .nodes) (h .differences) next noDifferences)
@@ -151,12 +152,12 @@ module _ (s : List ℕ) where
       go : (x : Got Header) → Tied
           (whole s (andThen x (λ h at. andThen (eachFrom (readNode (h .top)) 0 (h .nodes) s at) (λ vs next.
           andThen (times (h .differences) (readDifference (h .nodes)) s next) (λ ds last. got (sheetOf h vs ds) last)))))
-          (gotOn x (λ k p. tables (Table.refusal k p) noNodes noDifferences) (λ h at.
+          (gotOn x (λ k p. tables (Answers.refusal k p) noNodes noDifferences) (λ h at.
           gotOn (nodesInto s (h .top) (h .nodes) at noNodes .end)
-          (λ k p. tables (Table.refusal k p) (nodesInto s (h .top) (h .nodes) at noNodes .table) noDifferences) (λ u next.
+          (λ k p. tables (Answers.refusal k p) (nodesInto s (h .top) (h .nodes) at noNodes .table) noDifferences) (λ u next.
           gotOn (differencesInto s (h .nodes) (h .differences) next noDifferences .end)
-          (λ k p. tables (Table.refusal k p) (nodesInto s (h .top) (h .nodes) at noNodes .table) (differencesInto s (h .nodes) (h .differences) next noDifferences .table))
-          (λ w last. tables (cond (ltb last (length s)) (Table.refusal 5 last) (header h)) (nodesInto s (h .top) (h .nodes) at noNodes .table) (differencesInto s (h .nodes) (h .differences) next noDifferences .table)))))
+          (λ k p. tables (Answers.refusal k p) (nodesInto s (h .top) (h .nodes) at noNodes .table) (differencesInto s (h .nodes) (h .differences) next noDifferences .table))
+          (λ w last. tables (cond (ltb last (length s)) (Answers.refusal 5 last) (header h)) (nodesInto s (h .top) (h .nodes) at noNodes .table) (differencesInto s (h .nodes) (h .differences) next noDifferences .table)))))
       go (got h at) = after-header h at _ _ refl (nodes-filled s (h .top) (h .nodes) at noNodes)
       go (refusal k p) = none
 
@@ -170,7 +171,7 @@ module _ (s : List ℕ) where
       go (refused k p) t none f = let z : _≡_ {A = ℕ} 0 1 = cc (ap (λ (t : Tables). t .answer) f) in absurd (omega arith)
 
   -- the answer was a refusal: it is the definition's
-  pub read-refused : (a : Answer) (g d : List ℕ) → tables a g d ≡ readInto s → (k p : ℕ) → a ≡ Table.refusal k p
+  pub read-refused : (a : Answer) (g d : List ℕ) → tables a g d ≡ readInto s → (k p : ℕ) → a ≡ Answers.refusal k p
       → (g₀ d₀ : List ℕ) → tables a g₀ d₀ ≡ readAfter (parse s) g₀ d₀
   read-refused a g d e k p q g₀ d₀ = go (parse s) (readInto s) tied e
     where

@@ -3,22 +3,20 @@ use mathlib.Core.Path.{_≡_}
 use Rattle.maps.specs.Number.{Got, got}
 use Rattle.maps.specs.Sheet.{Difference}
 use Rattle.maps.specs.Read.{Head, Header}
-use Rattle.maps.specs.Code.{kindMeant, numberOf, placeOf}
-use Rattle.maps.specs.declared.Node as N
+use Rattle.maps.specs.Code.{numberOf, placeOf}
 use Rattle.maps.specs.declared.Refusal.{Refusal}
 use Rattle.number.specs.Code.{refusalMeant}
 use Rattle.number.specs.declared.Number.{Number}
 use Rattle.number.specs.declared.Number.the-variants.{Refused}
-use Rattle.sheet.specs.Table.{Answer, header}
-use Rattle.sheet.specs.Table as Table
+use Rattle.rows.specs.Code.{headMeant, differenceMeant, headerMeant}
+use Rattle.sheet.specs.Answer.{Answer, header}
+use Rattle.sheet.specs.Answer as Answers
 use Rattle.sheet.specs.declared.fill.Progress.{Progress}
 use Rattle.sheet.specs.declared.fill.Progress.the-variants as P
 use Rattle.sheet.specs.declared.node.HeadRead.{HeadRead}
 use Rattle.sheet.specs.declared.node.HeadRead.the-variants as H
-use Rattle.sheet.specs.declared.rows.Difference as W
 use Rattle.sheet.specs.declared.node.DifferenceRead.{DifferenceRead}
 use Rattle.sheet.specs.declared.node.DifferenceRead.the-variants as D
-use Rattle.sheet.specs.declared.reader.Header as R
 use Rattle.sheet.specs.declared.reader.HeaderRead.{HeaderRead}
 use Rattle.sheet.specs.declared.reader.HeaderRead.the-variants as O
 use Rattle.sheet.specs.declared.reader.Reading.{Reading}
@@ -28,15 +26,9 @@ use Rattle.sheet.specs.declared.reader.Reading.the-variants as A
 abbrev pub NotRead : Number → Type 0
 NotRead read = (why : Refusal) × (read ≡ Refused why)
 
-abbrev pub headMeant : N.Node → Head
-headMeant v = record { kind = kindMeant (v .kind); output = v .output; delay = v .delay .0; count = v .operands }
-
 abbrev pub headRead : HeadRead → Got Head
 headRead (H.Head v next) = got (headMeant v) (next .at)
 headRead (H.Refused w) = refusalMeant w
-
-abbrev pub differenceMeant : W.Difference → Difference
-differenceMeant d = record { from = d .from; to = d .to; plus = d .plus; minus = d .minus }
 
 abbrev pub differenceRead : DifferenceRead → Got Difference
 differenceRead (D.Value d next) = got (differenceMeant d) (next .at)
@@ -46,9 +38,6 @@ abbrev pub progressMeant : Progress → Got (Unit {0})
 progressMeant (P.Next next) = got tt (next .at)
 progressMeant (P.Refused w) = refusalMeant w
 
-abbrev pub headerMeant : R.Header → Header
-headerMeant h = record { leaves = h .leaves; top = h .top; horizon = h .horizon; nodes = h .nodes; differences = h .differences }
-
 abbrev pub headerRead : HeaderRead → Got Header
 headerRead (O.Header h next) = got (headerMeant h) (next .at)
 headerRead (O.Refused w) = refusalMeant w
@@ -56,4 +45,4 @@ headerRead (O.Refused w) = refusalMeant w
 -- what reading a sheet answers
 abbrev pub answerMeant : Reading → Answer
 answerMeant (A.Sheet h) = header (headerMeant h)
-answerMeant (A.Refused w) = Table.refusal (numberOf w) (placeOf w)
+answerMeant (A.Refused w) = Answers.refusal (numberOf w) (placeOf w)

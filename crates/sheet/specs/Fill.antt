@@ -6,8 +6,9 @@ use lib.Dec.{ltb}
 use lib.ListN.{length}
 use Rattle.maps.specs.Number.{Got, got, refusal}
 use Rattle.maps.specs.Read.{Header, operand, readHead, readDifference, readHeader}
-use Rattle.sheet.specs.Table.{storeFrom, headRow, differenceRow, nodePlace, operandPlace, differencePlace, noNodes, noDifferences, header, Tables, tables}
-use Rattle.sheet.specs.Table as Table
+use Rattle.rows.specs.Table.{storeFrom, headRow, differenceRow, nodePlace, operandPlace, differencePlace, noNodes, noDifferences}
+use Rattle.sheet.specs.Answer.{header, Tables, tables}
+use Rattle.sheet.specs.Answer as Answers
 
 pub record Filled : Type 0 where
   pub end : Got (Unit {0})
@@ -62,15 +63,15 @@ module _ (s : List ℕ) where
   abbrev pub rowsInto : Header → (at : ℕ) → (graph differences : List ℕ) → Tables
   rowsInto h at g d =
       let ns = nodesInto (h .top) (h .nodes) at g in
-      gotOn (ns .end) (λ k p. tables (Table.refusal k p) (ns .table) d) (λ u next.
+      gotOn (ns .end) (λ k p. tables (Answers.refusal k p) (ns .table) d) (λ u next.
       let ds = differencesInto (h .nodes) (h .differences) next d in
-      gotOn (ds .end) (λ k p. tables (Table.refusal k p) (ns .table) (ds .table)) (λ w last.
-      tables (cond (ltb last (length s)) (Table.refusal 5 last) (header h)) (ns .table) (ds .table)))
+      gotOn (ds .end) (λ k p. tables (Answers.refusal k p) (ns .table) (ds .table)) (λ w last.
+      tables (cond (ltb last (length s)) (Answers.refusal 5 last) (header h)) (ns .table) (ds .table)))
 
   -- a whole sheet into two tables
   unfoldable pub tablesInto : (graph differences : List ℕ) → Tables
   unfolding gotOn
-  tablesInto g d = gotOn (readHeader s 0) (λ k p. tables (Table.refusal k p) g d) (λ h at. rowsInto h at g d)
+  tablesInto g d = gotOn (readHeader s 0) (λ k p. tables (Answers.refusal k p) g d) (λ h at. rowsInto h at g d)
 
   -- the same into tables without a row
   abbrev pub readInto : Tables

@@ -1,3 +1,3 @@
-pub mod Table
+pub mod Answer
 pub mod Code
 pub mod Fill

@@ -4,20 +4,20 @@ ghost use Prim.Native.Nat.{_+_, _≤_, _<_};
 ghost use lib.ListN.{length};
 ghost use Rattle.maps.specs.Limits.{topRange, sizeRange};
 ghost use Rattle.sheet.specs.Code.{progressMeant};
-ghost use Rattle.sheet.specs.Table.{nodePlace, operandPlace, differencePlace};
+ghost use Rattle.rows.specs.Table.{nodePlace, operandPlace, differencePlace};
 ghost use Rattle.sheet.specs.Fill.{filled, operandInto, operandsInto, nodeInto, nodesInto, differenceInto, differencesInto};
 use crate::node::DifferenceRead;
 use crate::node::HeadRead;
 use crate::node::difference_at;
 use crate::node::head_at;
 use crate::node::refusal_of;
-use crate::rows::store_difference;
-use crate::rows::store_head;
-use crate::rows::store_operand;
 use maps::Refusal;
 use number::Cursor;
 use number::Number;
 use number::operand_at;
+use rows::store_difference;
+use rows::store_head;
+use rows::store_operand;
 
 // How far reading into a table came.
 pub enum Progress {

@@ -5,18 +5,18 @@ ghost use Rattle.maps.specs.Limits.{topRange, sizeRange};
 ghost use Rattle.maps.specs.Read.{readHead, readDifference, ahead, back};
 ghost use Rattle.sheet.specs.Code.{NotRead, headRead, differenceRead};
 ghost use Rattle.number.specs.declared.Number.the-variants as Number;
-use crate::rows::Difference;
-use crate::rows::kind_of;
 use maps::Level;
 use maps::Node;
 use maps::Refusal;
 use number::Cursor;
-use number::Field;
 use number::Number;
 use number::field_at;
 use number::field_in;
-use number::range_of;
-use number::ranges_of;
+use ranges::Field;
+use ranges::range_of;
+use ranges::ranges_of;
+use rows::Difference;
+use rows::kind_of;
 
 // What reading a node's head gives.
 pub enum HeadRead {

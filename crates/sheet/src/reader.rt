@@ -3,29 +3,22 @@ ghost use mathlib.Core.Path.{_≡_};
 ghost use Rattle.maps.specs.Read.{readHeader};
 ghost use Prim.Native.Nat.{_≤_, _<_};
 ghost use Rattle.maps.specs.Limits.{topRange, sizeRange, countRange};
-ghost use Rattle.sheet.specs.Code.{headerMeant, headerRead, answerMeant};
-ghost use Rattle.sheet.specs.Table.{tables};
+ghost use Rattle.rows.specs.Code.{headerMeant};
+ghost use Rattle.sheet.specs.Code.{headerRead, answerMeant};
+ghost use Rattle.sheet.specs.Answer.{tables};
 ghost use Rattle.sheet.specs.Fill.{rowsInto, tablesInto};
 use crate::fill::Progress;
 use crate::fill::read_differences;
 use crate::fill::read_nodes;
 use crate::node::refusal_of;
-use crate::rows::Differences;
-use crate::rows::Graph;
 use maps::Refusal;
 use number::Cursor;
-use number::Field;
 use number::Number;
 use number::field_at;
-
-// K, T, H, n, m.
-pub struct Header {
-    pub leaves: u32,
-    pub top: u32,
-    pub horizon: u32,
-    pub nodes: u32,
-    pub differences: u32,
-}
+use ranges::Field;
+use rows::Differences;
+use rows::Graph;
+use rows::Header;
 
 // What reading the header gives.
 pub enum HeaderRead {

@@ -7,13 +7,13 @@ use native.Mathlib.Numerals.{add-one}
 use lib.ListN.{length, take, set, length-append, length-set}
 use lib.Seq.{take-suc-set}
 use borrow.Author.Tests.{lt-ltb, le-ltb}
-use Rattle.maps.specs.Lists.{All, below, concat}
+use Rattle.maps.specs.Lists.{below, concat}
 use Rattle.maps.specs.Number.{encoded, encodedUpTo}
 use Rattle.maps.specs.Limits.{leavesRange}
 use Rattle.bound.specs.Lookup.{countOf, leafOf}
 use Rattle.cover.specs.Cover.{rowOf}
 use Rattle.cover.proofs.CoverMarks.{over-more}
-use Rattle.writing.specs.Writing.{Put}
+use Rattle.writing.specs.Writing.{Put, planRoom}
 
 -- nothing is written
 pub put-none : (bytes : List ℕ) (at : ℕ) → Put 0 bytes bytes at at []
@@ -88,5 +88,5 @@ module _ (f : ℕ → List ℕ) where
   put-all n v l e h = rw (← e) (put-within 5120 (omega arith) h)
 
 -- what is written from the start
-pub put-first : {a b : List ℕ} {r : ℕ} {xs : List ℕ} → Put 5122 a b 0 r xs → (r ≡ length xs) × (take r b ≡ xs) × (r ≤ 8192)
+pub put-first : {a b : List ℕ} {r : ℕ} {xs : List ℕ} → Put planRoom a b 0 r xs → (r ≡ length xs) × (take r b ≡ xs) × (r ≤ planRoom)
 put-first f = (omega (arith, f .end), f .front, omega (arith, f .near))

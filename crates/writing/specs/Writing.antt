@@ -16,6 +16,10 @@ pub record Put (most : ℕ) (before after : List ℕ) (at next : ℕ) (xs : List
   pub wide : length after ≡ length before
   pub front : take next after ≡ take at before ++ xs
 
+-- the bytes of 256 rows of ten numbers and of the latency, each number in two
+abbrev pub planRoom : ℕ
+planRoom = 5122
+
 -- two bytes spell each number of the row of v
 pub record Writable (steps levels marks cuts : List ℕ) (v : ℕ) : Type 0 where
   pub step : getD steps v 0 < values

@@ -9,13 +9,16 @@ ghost use Rattle.maps.specs.Number.{encoded, values};
 ghost use Rattle.bound.specs.Lookup.{countOf};
 ghost use Rattle.cover.specs.Cover.{Rows, rowOf};
 ghost use Rattle.writing.specs.Bytes.{Small, flatRow, flatPlan};
-ghost use Rattle.writing.specs.Writing.{Put, Writable};
+ghost use Rattle.writing.specs.Writing.{Put, planRoom, Writable};
 use bound::Levels;
 use bound::Steps;
 use bound::label_of;
 use level::Cuts;
 use level::leaf_count_in;
 use level::leaf_in;
+
+// Room for the longest plan, and more: every number in two bytes.
+pub type PlanBytes = [u8; 5122];
 
 // Writes x in one or two bytes; the position after them.
 fn put(bytes: &mut [u8], at: usize, x: u32) -> usize
@@ -125,15 +128,15 @@ pub fn write_plan(
     levels: &Levels,
     used: &[u8; 256],
     cuts: &Cuts,
-    bytes: &mut [u8; 8192],
+    bytes: &mut PlanBytes,
 ) -> usize
     requires { ⌜ Small latency n (now steps) (now levels) ⌝ }
     requires { ⌜ Rows n (now used) (now cuts) ⌝ }
+    requires { ⌜ length (now bytes) ≡ planRoom ⌝ }
     ensures { λ r. ⌜ (r ≡ length (flatPlan latency n (now (steps .entry)) (now (levels .entry)) (now (used .entry)) (now (cuts .entry))))
         × (take r (now (bytes .exit)) ≡ flatPlan latency n (now (steps .entry)) (now (levels .entry)) (now (used .entry)) (now (cuts .entry)))
-        × (r ≤ 8192) ⌝ }
+        × (r ≤ planRoom) ⌝ }
 {
-    *bytes = [0; 8192];
     let after = put(bytes, 0, latency);
     put_rows(n, steps, levels, used, cuts, bytes, after)
 }

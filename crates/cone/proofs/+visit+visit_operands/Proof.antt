@@ -5,7 +5,7 @@ use Prim.Native.Nat.{ℕ, _+_, _*_, _-_, _<_}
 use mathlib.Core.Path.{sym, subst, _∙_}
 use lib.ListN.{set, length-set}
 use lib.Seq.{getD-set-same}
-use Rattle.sheet.specs.Table.{countIn}
+use Rattle.rows.specs.Table.{countIn}
 use Rattle.cone.specs.Part.{Met}
 use Rattle.cone.proofs.Growth.{in-part, member-still, grown-none, grown-leaf, grown-member, grown-operands}
 use borrow.Fn.Kinds.{In}
@@ -16,8 +16,8 @@ use Rattle.cone.proofs.+visit+visit_operands.Lts-visit as visit-lts
 use Rattle.cone.proofs.visit_operands.Reads as visit-operands
 use Rattle.cone.proofs.visit_operands.Kinds as visit-operands-kinds
 use Rattle.cone.proofs.+visit+visit_operands.Lts-visit_operands as visit-operands-lts
-use Rattle.sheet.proofs.count_in.Reads as count-in-reads
-use Rattle.sheet.proofs.operand_in.Reads as operand-in-reads
+use Rattle.rows.proofs.count_in.Reads as count-in-reads
+use Rattle.rows.proofs.operand_in.Reads as operand-in-reads
 use Rattle.cone.proofs.+visit+visit_operands.{statement}
 use Rattle.cone.proofs.+visit+visit_operands.Tie.{close}
 

@@ -5,7 +5,7 @@ use lib.ListN.{getD}
 use Rattle.maps.specs.Sheet.{isBox}
 use Rattle.maps.specs.Code.{kindMeant}
 use Rattle.maps.specs.declared.Kind as K
-use Rattle.sheet.specs.Table.{kindAt}
+use Rattle.rows.specs.Table.{kindAt}
 use Rattle.cover.proofs.CoverTurn.{test-output, test-box, test-mark}
 use borrow.Author.Needs.{needs}
 use Rattle.cover.proofs.is_used.Statement.{statement}

@@ -1,12 +1,12 @@
 -- `cover::mark_operands` meets its contract. The invariant: the first j of them are marked.
-use Prim.Native.Nat.{ℕ, _-_, _≤_, _<_}
+use Prim.Native.Nat.{ℕ, _-_, _≤_}
 use mathlib.Core.Path.{_≡_, subst}
 use mathlib.Core.List.{map}
 use native.Mathlib.Omega.{arith}
 use borrow.Author.Needs.{needs}
 use Rattle.maps.specs.Lists.{below}
 use Rattle.maps.specs.Limits.{operandsMost}
-use Rattle.sheet.specs.Table.{countIn, operandIn}
+use Rattle.rows.specs.Table.{countIn, operandIn}
 use Rattle.cover.specs.Covering.{MarkedAll}
 use Rattle.cover.proofs.CoverMarks.{marked-none, marked-more}
 use Rattle.cover.proofs.mark_operands.Statement.{statement}

@@ -4,7 +4,7 @@ use Prim.Native.Nat.{ℕ}
 use mathlib.Core.Path.{sym, subst, _∙_}
 use mathlib.Core.List.{List}
 use Rattle.cut.specs.Question.{Fewest, Best}
-use Rattle.cut.proofs.Failed.{marks-size}
+use Rattle.flow.proofs.Failed.{marks-size}
 use Rattle.cut.proofs.Bridge.{fewest-units, best-marks}
 use borrow.Author.Needs.{needs}
 use Rattle.cut.proofs.choose.Statement.{statement}

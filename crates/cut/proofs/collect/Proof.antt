@@ -4,7 +4,7 @@ use Prim.Native.Nat.{ℕ, _+_, _-_, _≤_}
 use mathlib.Core.Path.{_≡_, sym, ap, _∙_}
 use mathlib.Core.List.{List, _++_}
 use lib.ListN.{length, take}
-use Rattle.cut.specs.Search.{leafMark, single, rising}
+use Rattle.flow.specs.Search.{leafMark, single, rising}
 use Rattle.cut.proofs.Listing.{rising-none, rising-turn, rising-longer, rising-short, rising-grow}
 use borrow.Author.Needs.{needs}
 use Rattle.cut.proofs.collect.Statement.{statement}

@@ -4,8 +4,8 @@ use native.Mathlib.Omega.{arith}
 use Prim.Native.Nat.{ℕ, _-_, _<_}
 use mathlib.Core.Path.{_≡_, _∙_}
 use lib.ListN.{length, length-set}
-use Rattle.cut.specs.Search.{cell}
-use Rattle.cut.proofs.Listing.{filled-more, copied}
+use Rattle.rows.specs.Cells.{cell}
+use Rattle.rows.proofs.Cells.{filled-more, copied}
 use Rattle.cut.proofs.copy_marks.Statement.{statement}
 use Rattle.cut.proofs.copy_marks.Tie as tie
 

@@ -2,7 +2,7 @@
 use native.Mathlib.Omega.{arith}
 use Prim.Native.Nat.{ℕ, _+_, _-_, _≤_}
 use mathlib.Core.Path.{_≡_, subst}
-use Rattle.cut.specs.Search.{Settled}
+use Rattle.flow.specs.Search.{Settled}
 use Rattle.cut.proofs.Deepening.{Partly, partly-first, partly-turn, partly-last}
 use borrow.Author.Needs.{needs}
 use Rattle.cut.proofs.deepen.Statement.{statement}

@@ -1,5 +1,5 @@
 -- `note` meets its contract.
-use Rattle.cut.proofs.Marks.{mark-none, mark-inside, mark-yes}
+use Rattle.flow.proofs.Marks.{mark-none, mark-inside, mark-yes}
 use Rattle.cut.proofs.Listing.{note-same, note-more, room}
 use borrow.Author.Needs.{needs}
 use Rattle.cut.proofs.note.Statement.{statement}

@@ -4,7 +4,7 @@ use Prim.Native.Nat.{ℕ}
 use mathlib.Core.Path.{sym, subst}
 use mathlib.Core.List.{List}
 use Rattle.cut.specs.Question.{AllowedCut}
-use Rattle.cut.proofs.Failed.{marks-size}
+use Rattle.flow.proofs.Failed.{marks-size}
 use Rattle.cut.proofs.Bridge.{marks-allowed, fewest-units}
 use borrow.Author.Needs.{needs}
 use Rattle.cut.proofs.search_cut.Statement.{statement}

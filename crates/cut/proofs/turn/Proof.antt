@@ -4,9 +4,10 @@ use Prim.Native.Nat.{ℕ}
 use mathlib.Core.Path.{refl, sym, subst, _∙_}
 use mathlib.Core.Logic.{inl}
 use mathlib.Core.List.{List}
-use Rattle.cut.specs.Search.{Flow, within}
-use Rattle.cut.proofs.Laws as Laws
-use Rattle.cut.proofs.Marks.{mark-none, mark-inside}
+use Rattle.flow.specs.Search.{Flow, within}
+use Rattle.rows.proofs.Cells as Cells
+use Rattle.flow.proofs.Laws as Laws
+use Rattle.flow.proofs.Marks.{mark-none, mark-inside}
 use Rattle.cut.proofs.Listing.{turn-held, turn-grown}
 use borrow.Author.Needs.{needs}
 use Rattle.cut.proofs.turn.Statement.{statement}
@@ -44,7 +45,7 @@ returns-3 c =
     let a = c .before .before .before .before .copy-flow in
     let e = c .before .expand in
     turn-held (s .args .graph .now) (s .args .code .now) (s .args .seen .now) (m .last .1 .0) (s .args .above .now) (a .last .1 .0) (e .last .1 .1 .1 .0) (s .args .x) (m .ensures) (a .ensures)
-    (Laws.succeeded _ _ (e .result) (c .if3 .taken) (e .ensures))
+    (Cells.succeeded _ _ (e .result) (c .if3 .taken) (e .ensures))
 
 returns-4 : tie.Need-returns-4
 returns-4 c =
@@ -54,7 +55,7 @@ returns-4 c =
     let e = c .before .before .before .before .before .expand in
     let b = c .copy-marks2 in
     turn-grown (s .args .graph .now) (s .args .code .now) (s .args .seen .now) (m .last .1 .0) (e .last .1 .1 .0) (b .last .1 .0) (s .args .above .now) (a .last .1 .0) (e .last .1 .1 .1 .0) (s .args .x)
-    (m .ensures) (a .ensures) (b .ensures) (Laws.failed _ _ (e .result) (c .before .before .before .before .if3 .left) (e .ensures))
+    (m .ensures) (a .ensures) (b .ensures) (Cells.failed _ _ (e .result) (c .before .before .before .before .if3 .left) (e .ensures))
 
 pub turn-spec : {M : Type 1} → statement M
 turn-spec =

@@ -2,7 +2,7 @@
 -- is marked. The measure: how many nodes are not marked.
 use borrow.Author.Needs.{needs}
 use mathlib.Core.Path.{_∙_}
-use Rattle.cut.specs.Search.{zeros}
+use Rattle.rows.specs.Cells.{zeros}
 use Rattle.hold.proofs.HoldMarks.{marked-wide, Marks, marks-first, marks-again, marks-exact}
 use Rattle.hold.proofs.floats.Statement.{statement}
 use Rattle.hold.proofs.floats.Tie as tie

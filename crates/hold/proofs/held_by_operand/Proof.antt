@@ -29,63 +29,65 @@ operand-in-requires c κs =
     let few = l .inv .1 in
     (c .before .before .before .before .pre .0, omega arith)
 
-ready-step-requires : tie.Need-ready-step-requires Inv-loop μ-loop
-ready-step-requires c κs =
+element-copy-out-if1 : tie.Need-element-copy-out-if1 Inv-loop μ-loop
+element-copy-out-if1 c =
     let i = c .before in
     let s = i .before .before .before .before in
     let n = i .before .before .before .count-in .ensures in
     let low = s .pre .1 .0 .falls (s .args .v) (i .before .loop .j) (s .pre .0) (rw n at (i .loop-test .taken)) in
     let e = c .operand-in .ensures in
     let v = s .pre .0 in
-    (omega arith, s .pre .1 .1 (c .operand-in .result) (omega arith))
+    omega arith
 
-element-copy-out-if1 : tie.Need-element-copy-out-if1 Inv-loop μ-loop
-element-copy-out-if1 c =
-    let i = c .before .before in
+ready-step-requires : tie.Need-ready-step-requires Inv-loop μ-loop
+ready-step-requires c κs =
+    let o = c .before .before in
+    let i = o .before in
     let s = i .before .before .before .before in
     let n = i .before .before .before .count-in .ensures in
     let low = s .pre .1 .0 .falls (s .args .v) (i .before .loop .j) (s .pre .0) (rw n at (i .loop-test .taken)) in
-    let e = c .before .operand-in .ensures in
+    let e = o .operand-in .ensures in
     let v = s .pre .0 in
-    omega arith
+    (omega arith, s .pre .1 .1 (o .operand-in .result) (omega arith))
 
 add-if2 : tie.Need-add-if2 Inv-loop μ-loop
 add-if2 c =
-    let f = c .before .before .before in
-    let i = f .before .before in
+    let f = c .before in
+    let o = f .before .before .before in
+    let i = o .before in
     let s = i .before .before .before .before in
     let n = i .before .before .before .count-in .ensures in
     let low = s .pre .1 .0 .falls (s .args .v) (i .before .loop .j) (s .pre .0) (rw n at (i .loop-test .taken)) in
-    let e = f .before .operand-in .ensures in
-    let soon = s .pre .1 .1 (f .before .operand-in .result) (omega arith) in
+    let e = o .operand-in .ensures in
+    let soon = s .pre .1 .1 (o .operand-in .result) (omega arith) in
     omega (arith, f .ready-step .ensures)
 
 returns : tie.Need-returns Inv-loop μ-loop
 returns c =
-    let f = c .before .before .before .before .before in
-    let i = f .before .before in
+    let f = c .before .before .before in
+    let o = f .before .before .before in
+    let i = o .before in
     let s = i .before .before .before .before in
     let n = i .before .before .before .count-in .ensures in
-    let h = held-yes (s .args .held .now) _ (c .before .before .before .if1 .taken) in (
+    let h = held-yes (s .args .held .now) _ (f .before .if1 .taken) in (
       i .before .loop .j,
       rw n at (i .loop-test .taken),
-      near-by (s .args .graph .now) (s .args .steps .now) (s .args .held .now) (s .args .v) (i .before .loop .j) (f .before .operand-in .ensures) (f .ready-step .ensures) (i .before .before .step-of .ensures) h (c .if2 .taken),
+      near-by (s .args .graph .now) (s .args .steps .now) (s .args .held .now) (s .args .v) (i .before .loop .j) (o .operand-in .ensures) (f .ready-step .ensures) (i .before .before .step-of .ensures) h (c .if2 .taken),
     )
 
 loop-again : tie.Need-loop-again Inv-loop μ-loop
 loop-again c =
     let f = c .before .before in
-    let i = f .before .before in
+    let i = f .before in
     let s = i .before .before .before .before in
     let l = i .before .loop in
     let t = i .loop-test .taken in
-    let e = f .before .operand-in .ensures in
-    let r = f .ready-step .ensures in
+    let e = f .operand-in .ensures in
     let o = i .before .before .step-of .ensures in (
       omega arith,
       l .inv .1,
       below-more _ _ (l .inv .2)
-          (λ near. ⊎-elim (λ w. not-close (s .args .graph .now) (s .args .steps .now) (s .args .held .now) (s .args .v) (l .j) e r o (omega (arith, w .3 .left)) near) (λ w. not-marked (s .args .graph .now) (s .args .steps .now) (s .args .held .now) (s .args .v) (l .j) e r o (held-no (s .args .held .now) _ (w .left)) near) (c .if1 .came)),
+          (λ near. ⊎-elim (λ w. not-close (s .args .graph .now) (s .args .steps .now) (s .args .held .now) (s .args .v) (l .j) e (w .1 .ensures) o (omega (arith, w .4 .left)) near) (λ w. not-marked (s .args .graph .now) (s .args .steps .now) (s .args .held .now) (s .args .v) (l .j) e (held-no (s .args .held .now) _ (w .left)) near) (c .if1 .came)),
     )
 
 returns-2 : tie.Need-returns-2 Inv-loop μ-loop
@@ -104,9 +106,9 @@ held-by-operand-spec =
     (λ c κs. search needs)
     loop-holds
     operand-in-requires
-    ready-step-requires
     (λ c. search needs)
     element-copy-out-if1
+    ready-step-requires
     add-if2
     returns
     (λ c. search needs)

@@ -2,92 +2,69 @@
 use Prim.Native.Nat.{ℕ}
 use mathlib.Core.Path.{_≡_, refl, subst, ap, _∙_}
 use mathlib.Core.Bool.{true, false}
-use mathlib.Core.List.{List}
 use native.Mathlib.Omega.{arith}
 use lib.ListN.{getD, set}
 use borrow.Author.Needs.{needs}
-use Rattle.sheet.specs.Table.{fromIn, toIn}
 use Rattle.hold.specs.Mark.{heldIn}
 use Rattle.hold.proofs.HoldMarks.{held-yes, held-no, not-both}
 use Rattle.hold.proofs.hold_target.Statement.{statement}
 use Rattle.hold.proofs.hold_target.Tie as tie
 
+returns : tie.Need-returns
+returns c =
+    let b = c .before .before in
+    let held = b .before .args .held .now in
+    (λ k l. absurd (not-both k (subst (λ (u : ℕ). heldIn held u ≡ false) (b .difference-in .ensures .0) (held-no held _ (c .if1 .taken)))), refl)
+
+returns-2 : tie.Need-returns-2
+returns-2 c =
+    let b = c .before .before .before .before in
+    let held = b .before .args .held .now in
+    (λ k l. subst (λ (u : ℕ). heldIn held u ≡ true) (b .difference-in .ensures .1) (held-yes held _ (c .if2 .taken)), refl)
+
 add-ahead : tie.Need-add-ahead
 add-ahead c =
-    let b = c .before .before in
-    let a = b .before in
-    let s = a .before .before in
-    let e = a .before .difference-in .ensures in
-    let held = s .args .held .now in
-    let d = s .args .differences .now in
-    let i = s .args .i in
+    let a = c .before .before .before in
+    let b = a .before .before .before .before .before in
+    let s = b .before in
+    let e = b .difference-in .ensures in
     let f = a .step-of .ensures ∙ ap (λ (u : ℕ). getD (s .args .steps .now) u 0) (e .0) in
-    let t = b .step-of2 .ensures ∙ ap (λ (u : ℕ). getD (s .args .steps .now) u 0) (e .1) in
     omega (arith, s .pre .1 .0 .ahead, e .2)
 
 add-behind : tie.Need-add-behind
 add-behind c =
-    let b = c .before .before .before .before in
-    let a = b .before in
-    let s = a .before .before in
-    let e = a .before .difference-in .ensures in
-    let held = s .args .held .now in
-    let d = s .args .differences .now in
-    let i = s .args .i in
-    let f = a .step-of .ensures ∙ ap (λ (u : ℕ). getD (s .args .steps .now) u 0) (e .0) in
-    let t = b .step-of2 .ensures ∙ ap (λ (u : ℕ). getD (s .args .steps .now) u 0) (e .1) in
+    let t = c .before .before .before .before in
+    let b = t .before .before .before .before .before .before in
+    let s = b .before in
+    let e = b .difference-in .ensures in
+    let f = t .step-of2 .ensures ∙ ap (λ (u : ℕ). getD (s .args .steps .now) u 0) (e .1) in
     omega (arith, s .pre .1 .0 .behind, e .3)
-
-returns : tie.Need-returns
-returns c =
-    let b = c .before .before .before .before .before .before in
-    let a = b .before in
-    let s = a .before .before in
-    let e = a .before .difference-in .ensures in
-    let held = s .args .held .now in
-    let d = s .args .differences .now in
-    let i = s .args .i in
-    (λ k l. absurd (not-both k (subst (λ (u : ℕ). heldIn held u ≡ false) (e .0) (held-no held _ (c .if1 .taken)))), refl)
-
-returns-2 : tie.Need-returns-2
-returns-2 c =
-    let b = c .before .before .before .before .before .before .before .before in
-    let a = b .before in
-    let s = a .before .before in
-    let e = a .before .difference-in .ensures in
-    let held = s .args .held .now in
-    let d = s .args .differences .now in
-    let i = s .args .i in
-    (λ k l. subst (λ (u : ℕ). heldIn held u ≡ true) (e .1) (held-yes held _ (c .if2 .taken)), refl)
 
 returns-3 : tie.Need-returns-3
 returns-3 c =
-    let b = c .before .before .before .before .before .before .before .before .before in
-    let a = b .before in
-    let s = a .before .before in
-    let e = a .before .difference-in .ensures in
-    let held = s .args .held .now in
-    let d = s .args .differences .now in
-    let i = s .args .i in
-    let f = a .step-of .ensures ∙ ap (λ (u : ℕ). getD (s .args .steps .now) u 0) (e .0) in
-    let t = b .step-of2 .ensures ∙ ap (λ (u : ℕ). getD (s .args .steps .now) u 0) (e .1) in
+    let t = c .before .before .before .before .before in
+    let a = t .before in
+    let b = a .before .before .before .before .before in
+    let s = b .before in
+    let e = b .difference-in .ensures in
+    let from = a .step-of .ensures ∙ ap (λ (u : ℕ). getD (s .args .steps .now) u 0) (e .0) in
+    let to = t .step-of2 .ensures ∙ ap (λ (u : ℕ). getD (s .args .steps .now) u 0) (e .1) in
     (λ k l. absurd (omega (arith, c .if3 .taken, e .2, e .3)), refl)
 
 returns-4 : tie.Need-returns-4
 returns-4 c =
-    let b = c .before .before .before .before .before .before .before .before .before in
-    let a = b .before in
-    let s = a .before .before in
-    let e = a .before .difference-in .ensures in
+    let t = c .before .before .before .before .before in
+    let a = t .before in
+    let b = a .before .before .before .before .before in
+    let s = b .before in
+    let e = b .difference-in .ensures in
     let held = s .args .held .now in
-    let d = s .args .differences .now in
-    let i = s .args .i in
-    let f = a .step-of .ensures ∙ ap (λ (u : ℕ). getD (s .args .steps .now) u 0) (e .0) in
-    let t = b .step-of2 .ensures ∙ ap (λ (u : ℕ). getD (s .args .steps .now) u 0) (e .1) in (
+    let from = a .step-of .ensures ∙ ap (λ (u : ℕ). getD (s .args .steps .now) u 0) (e .0) in
+    let to = t .step-of2 .ensures ∙ ap (λ (u : ℕ). getD (s .args .steps .now) u 0) (e .1) in (
       record {
-        holds = subst (λ (u : ℕ). heldIn held u ≡ true) (e .0) (held-yes held _ (c .before .before .before .if1 .left));
+        holds = subst (λ (u : ℕ). heldIn held u ≡ true) (e .0) (held-yes held _ (a .before .before .before .if1 .left));
         tight = omega (arith, c .if3 .left, e .2, e .3);
-        fresh = subst (λ (u : ℕ). heldIn held u ≡ false) (e .1) (held-no held _ (c .before .if2 .left));
+        fresh = subst (λ (u : ℕ). heldIn held u ≡ false) (e .1) (held-no held _ (a .before .if2 .left));
       },
       ap (λ (u : ℕ). set held u 1) (e .1),
     )
@@ -97,16 +74,16 @@ hold-target-spec =
     tie.close
     (tie.spec
     (λ c κs. search needs)
-    (λ c κs. search needs)
-    (λ c κs. search needs)
-    add-ahead
-    add-behind
     (λ c. search needs)
     (λ c. search needs)
     returns
     (λ c. search needs)
     (λ c. search needs)
     returns-2
+    (λ c κs. search needs)
+    (λ c κs. search needs)
+    add-ahead
+    add-behind
     returns-3
     (λ c. search needs)
     (λ c. search needs)

@@ -5,7 +5,7 @@ use Prim.Native.Nat.{_+_, _-_, _≤_, _<_}
 use mathlib.Core.Path.{sym, subst, _∙_}
 use mathlib.Core.Logic.{⊎-elim}
 use lib.ListN.{length}
-use Rattle.sheet.specs.Table.{toIn}
+use Rattle.rows.specs.Table.{toIn}
 use Rattle.hold.specs.Mark.{Swept}
 use Rattle.hold.proofs.HoldMarks.{marked-wide, swept-none, swept-yes, swept-no}
 use Rattle.hold.proofs.hold_targets.Statement.{statement}

@@ -9,7 +9,7 @@ use native.Mathlib.Omega.{arith}
 use lib.Dec.{ltb}
 use lib.ListN.{getD}
 use borrow.Author.Tests.{ltb-true, ltb-false}
-use Rattle.sheet.specs.Table.{fromIn, toIn, plusIn, minusIn}
+use Rattle.rows.specs.Table.{fromIn, toIn, plusIn, minusIn}
 use Rattle.bound.specs.Lookup.{lastInto}
 use Rattle.bound.specs.Bound.{Greatest}
 use Rattle.bound.proofs.Asking.{greatest-none, greatest-more, greatest-same, last-le, last-hit, last-none}

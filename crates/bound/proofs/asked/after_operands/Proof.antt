@@ -2,7 +2,7 @@
 use Prim.Native.Nat.{ℕ, _-_, _≤_, _<_, max}
 use mathlib.Core.Path.{_≡_, subst, ap, _∙_}
 use native.Mathlib.Omega.{arith}
-use Rattle.sheet.specs.Table.{countIn}
+use Rattle.rows.specs.Table.{countIn}
 use Rattle.bound.specs.Bound.{Greatest, readyStep}
 use Rattle.bound.proofs.Asking.{greatest-none, greatest-next, operand-ready}
 use borrow.Author.Needs.{needs}

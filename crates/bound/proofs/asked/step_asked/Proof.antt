@@ -2,7 +2,7 @@
 use Prim.Native.Nat.{ℕ, _<_}
 use mathlib.Core.Path.{subst}
 use native.Mathlib.Omega.{arith}
-use Rattle.sheet.specs.Table.{countIn}
+use Rattle.rows.specs.Table.{countIn}
 use Rattle.bound.specs.Bound.{Greatest, readyStep}
 use Rattle.bound.proofs.Safety.{graph-falls, node-in, few-differences, soon-all, summed-all}
 use Rattle.bound.proofs.Bounds.{asks-tables, asks-small}

@@ -1,6 +1,6 @@
 -- `level::code_of` meets its contract.
 use Rattle.maps.specs.Code.{labelOf, kindMeant}
-use Rattle.sheet.specs.Table.{kindAt}
+use Rattle.rows.specs.Table.{kindAt}
 use Rattle.bound.specs.Lookup.{arrivalIn}
 use Rattle.level.proofs.LevelCodes.{code-from}
 use borrow.Author.Needs.{needs}

@@ -2,7 +2,7 @@
 use native.Mathlib.Omega.{arith}
 use borrow.Author.Tests.{not-true, not-false}
 use Rattle.maps.specs.Code.{labelOf}
-use Rattle.sheet.proofs.Tables.{falling}
+use Rattle.rows.proofs.Tables.{falling}
 use Rattle.level.proofs.LevelCodes.{placed-in}
 use Rattle.level.proofs.LevelSpan.{placed-top, placed-few, kept-leaves, tried-at, tried-true, narrowed-up, narrowed-down}
 use borrow.Author.Needs.{needs}

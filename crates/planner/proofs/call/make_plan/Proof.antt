@@ -9,8 +9,9 @@ use Rattle.planner.proofs.call.make_plan.Tie as tie
 plan-tables-requires : tie.Need-plan-tables-requires
 plan-tables-requires c κs =
     let r = c .before .before .before .before in
-    let held = was-read _ _ _ _ (rw (r .reading2 .given .1) at (r .before .before .read-sheet .ensures)) in
-    (held .walks, (held .held, given held))
+    let read = r .before .before in
+    let held = was-read _ _ _ _ (rw (r .reading2 .given .1) at (read .read-sheet .ensures)) in
+    (held .walks, ((held .held, given held), read .before .before .before .before .pre))
 
 returns : tie.Need-returns
 returns c =

@@ -16,9 +16,9 @@ plan-labels-requires : tie.Need-plan-labels-requires
 plan-labels-requires c κs =
     let s = c .before .before .before .before .before .before .before .before in
     let e = c .before .before .before .before .least-labels in
-    let p = s .pre .1 in
+    let p = s .pre .1 .0 in
     let q = rw (not-false (e .result) (c .before .before .before .if1 .left)) at (e .ensures (p .0) (p .1) (p .2) (p .3)) in
-    (s .pre .0, (p .0, s .args .differences .now, p .1, found-legal (e .last .1 .1 .1 .1 .0) (e .last .1 .1 .1 .1 .1 .0) (p .1) (p .3) q))
+    (s .pre .0, ((p .0, s .args .differences .now, p .1, found-legal (e .last .1 .1 .1 .1 .0) (e .last .1 .1 .1 .1 .1 .0) (p .1) (p .3) q), s .pre .1 .1))
 
 returns-2 : tie.Need-returns-2
 returns-2 c =

@@ -5,13 +5,13 @@ use Rattle.planner.proofs.call.plan_labels.Tie as tie
 
 latency-requires : tie.Need-latency-requires
 latency-requires c κs =
-    let p = c .pre .1 in
+    let p = c .pre .1 .0 in
     (few-nodes (c .args .steps .now) (c .args .levels .now) (p .2) (p .3), soon (c .args .steps .now) (c .args .levels .now) (p .2) (p .3))
 
 cover-requires : tie.Need-cover-requires
 cover-requires c κs =
     let s = c .before .before .before in
-    let p = s .pre .1 in
+    let p = s .pre .1 .0 in
     let steps = s .args .steps .now in
     let levels = s .args .levels .now in
     (s .pre .0, ((few-nodes steps levels (p .2) (p .3), few-leaves steps levels (p .2) (p .3)), soon steps levels (p .2) (p .3)))
@@ -19,10 +19,10 @@ cover-requires c κs =
 write-plan-requires : tie.Need-write-plan-requires
 write-plan-requires c κs =
     let s = c .before .before .before .before .before .before .before in
-    let p = s .pre .1 in
+    let p = s .pre .1 .0 in
     let k = p .2 in
     let e = c .before .before .before .before .before .before .latency .ensures (p .0) (s .args .levels .now) (k .tabled) (k .nodes) in
-    (small (s .args .steps .now) (s .args .levels .now) k (p .3) e, c .before .before .before .cover .ensures .1)
+    (small (s .args .steps .now) (s .args .levels .now) k (p .3) e, (c .before .before .before .cover .ensures .1, s .pre .1 .1))
 
 returns : tie.Need-returns
 returns c =

@@ -16,9 +16,9 @@ plan-kept-requires c κs =
     let h = c .before .before in
     let e = h .before .before .lowest-cutless .ensures in
     let s = h .before .before .before .before in
-    let p = s .pre .1 in
+    let p = s .pre .1 .0 in
     let k = all-cut (p .1) (e (p .0)) (h .if1 .left) in
-    (s .pre .0, (p .0, p .1, k .1, k .0))
+    (s .pre .0, ((p .0, p .1, k .1, k .0), s .pre .1 .1))
 
 returns-2 : tie.Need-returns-2
 returns-2 c =

@@ -1,6 +1,5 @@
 -- `probe::prepare` meets its contract: each way out says why nothing is asked, and the last that all is set.
 use mathlib.Core.Path.{sym, ap, _∙_}
-use native.Mathlib.Omega.{arith}
 use Rattle.maps.specs.Sheet.{isLogic}
 use Rattle.maps.specs.Code.{kindMeant}
 use Rattle.maps.specs.declared.Kind as K

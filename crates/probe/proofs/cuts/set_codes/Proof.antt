@@ -8,7 +8,7 @@ use mathlib.Core.List.{List}
 use lib.ListN.{length, getD, set, length-set, length-replicate, getD-replicate}
 use lib.Seq.{getD-set-same, getD-set-other}
 use Rattle.maps.specs.Sheet.{Kind, isLogic}
-use Rattle.sheet.specs.Table.{kindAt}
+use Rattle.rows.specs.Table.{kindAt}
 use Rattle.cut.specs.Question.{codeFor}
 use Rattle.probe.specs.Probe.{allowedIn}
 use Rattle.probe.proofs.cuts.set_codes.Statement.{statement}

@@ -4,7 +4,7 @@ use Prim.Native.Nat.{ℕ, _+_, _-_, _≤_, max}
 use mathlib.Core.Path.{_≡_, sym, ap, _∙_}
 use native.Mathlib.Omega.{arith}
 use lib.ListN.{getD}
-use Rattle.sheet.specs.Table.{latencyIn}
+use Rattle.rows.specs.Table.{latencyIn}
 use Rattle.schedule.proofs.Rounds.{most, most-more, latency-is-most}
 use Rattle.schedule.proofs.labels.latency.Statement.{statement}
 use Rattle.schedule.proofs.labels.latency.Tie as tie

@@ -1,5 +1,4 @@
 -- `pass::node_label` meets its contract: one law for each kind.
-use Prim.Native.Nat.{ℕ}
 use mathlib.Core.Path.{ap, _∙_}
 use native.Mathlib.Omega.{arith}
 use Rattle.maps.specs.Code.{kindMeant}

@@ -6,7 +6,7 @@ use native.Mathlib.Nat.{sub-zero}
 use native.Mathlib.Omega.{arith}
 use lib.ListN.{length}
 use Rattle.sheet.specs.Code.{progressMeant}
-use Rattle.sheet.specs.Table.{operandPlace}
+use Rattle.rows.specs.Table.{operandPlace}
 use Rattle.sheet.specs.Fill.{repeatInto, operandInto}
 use Rattle.sheet.proofs.Turns.{turn, stop, done}
 use Rattle.sheet.proofs.fill.read_operands.Statement.{statement}

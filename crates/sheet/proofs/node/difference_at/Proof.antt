@@ -1,6 +1,6 @@
 -- `node::difference_at` meets its contract: one number after the other, as the definition reads them.
 use Rattle.maps.specs.Read.{readDifference}
-use Rattle.number.proofs.RangeLaws.{ids-right}
+use Rattle.ranges.proofs.RangeLaws.{ids-right}
 use borrow.Author.Needs.{needs}
 use Rattle.sheet.proofs.node.difference_at.Statement.{statement}
 use Rattle.sheet.proofs.node.difference_at.Tie as tie

@@ -1,6 +1,6 @@
 -- `node::head_at` meets its contract: one number after the other, each in the range that the table gives for the kind.
 use Rattle.maps.specs.Read.{readHead}
-use Rattle.number.proofs.RangeLaws.{delays-right, latencies-right, operands-right}
+use Rattle.ranges.proofs.RangeLaws.{delays-right, latencies-right, operands-right}
 use borrow.Author.Needs.{needs}
 use Rattle.sheet.proofs.node.head_at.Statement.{statement}
 use Rattle.sheet.proofs.node.head_at.Tie as tie

@@ -1,0 +1,116 @@
+// The ranges of the sheet's fields, each once: those of every field that is read alike in each node, and document 01's table by kind. Whoever
+// reads or writes a sheet takes them from here.
+ghost use mathlib.Core.Path.{_≡_};
+ghost use Prim.Native.Nat.{min};
+ghost use Rattle.ranges.specs.Ranges.{kindRanges, spanOf, placeOf, fieldRange};
+
+// The values from low to high.
+pub struct Span {
+    pub low: u32,
+    pub high: u32,
+}
+
+// The ranges of a node's fields. A delay is also at most T.
+pub struct Ranges {
+    pub delay: Span,
+    pub latency: Span,
+    pub operands: Span,
+}
+
+// By kind: input, logic, box.
+const KIND_RANGES: [Ranges; 3] = [
+    Ranges {
+        delay: Span { low: 0, high: 0 },
+        latency: Span { low: 0, high: 0 },
+        operands: Span { low: 0, high: 0 },
+    },
+    Ranges {
+        delay: Span { low: 1, high: 64 },
+        latency: Span { low: 0, high: 0 },
+        operands: Span { low: 1, high: 6 },
+    },
+    Ranges {
+        delay: Span { low: 0, high: 64 },
+        latency: Span { low: 0, high: 255 },
+        operands: Span { low: 0, high: 6 },
+    },
+];
+
+// The fields whose range does not depend on a kind: K, T, H, n, m, a node's kind and mark, an id of a difference (also below n) and its w.
+pub enum Field {
+    Leaves,
+    Top,
+    Horizon,
+    Nodes,
+    Differences,
+    Kind,
+    Mark,
+    Id,
+    Weight,
+}
+
+// In the order of the fields; w by its code.
+const FIELD_RANGES: [Span; 9] = [
+    Span { low: 2, high: 6 },
+    Span { low: 1, high: 64 },
+    Span { low: 0, high: 4095 },
+    Span { low: 1, high: 256 },
+    Span { low: 0, high: 1024 },
+    Span { low: 0, high: 2 },
+    Span { low: 0, high: 1 },
+    Span { low: 0, high: 255 },
+    Span { low: 0, high: 8190 },
+];
+
+// The ranges of a kind, by its code in the sheet; every code from 2 on is a box's.
+pub fn ranges_of(code: u32) -> Ranges
+    ensures { λ r. ⌜ r ≡ kindRanges code ⌝ }
+{
+    if code == 0 {
+        return KIND_RANGES[0];
+    }
+    if code == 1 {
+        return KIND_RANGES[1];
+    }
+    KIND_RANGES[2]
+}
+
+// The place of a field's range in the table.
+fn place_of(field: Field) -> usize
+    ensures { λ r. ⌜ r ≡ placeOf field ⌝ }
+{
+    match field {
+        Field::Leaves => 0,
+        Field::Top => 1,
+        Field::Horizon => 2,
+        Field::Nodes => 3,
+        Field::Differences => 4,
+        Field::Kind => 5,
+        Field::Mark => 6,
+        Field::Id => 7,
+        Field::Weight => 8,
+    }
+}
+
+// The range of a field.
+pub fn range_of(field: Field) -> Span
+    ensures { λ r. ⌜ r ≡ spanOf (fieldRange field) ⌝ }
+{
+    let i = place_of(field);
+    FIELD_RANGES[i]
+}
+
+impl Span {
+    // The values that are also at most `most`.
+    pub fn up_to(self, most: u32) -> Span
+        ensures { λ r. ⌜ (r .low ≡ self .low) × (r .high ≡ min most (self .high)) ⌝ }
+    {
+        if most < self.high {
+            return Span {
+                low: self.low,
+                high: most,
+            };
+        }
+        self
+    }
+}

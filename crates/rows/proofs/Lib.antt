@@ -1,0 +1,4 @@
+pub mod Cells
+pub mod StoredRows
+pub mod Stores
+pub mod Tables

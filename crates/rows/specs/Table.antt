@@ -1,0 +1,170 @@
+-- The two tables that a sheet is read into: a row of sixteen numbers for a node and of four for a difference, and 0 elsewhere.
+use Prim.Native.Nat.{ℕ, _+_, _*_, _≤_, _<_}
+use mathlib.Core.Path.{_≡_}
+use mathlib.Core.Bool.{Bool, cond}
+use mathlib.Core.List.{List, [], _∷_, map}
+use lib.ListN.{length, getD, set, replicate}
+use Rattle.maps.specs.Sheet.{Sheet, Kind, Node, Difference, size, node, latency, latencyOf}
+use Rattle.maps.specs.Read.{kindOf, Head, Header}
+use Rattle.maps.specs.WellFormed.{codeOf}
+use Rattle.maps.specs.Limits.{operandsMost}
+
+abbrev pub nodeStride : ℕ
+nodeStride = 16
+
+abbrev pub differenceStride : ℕ
+differenceStride = 4
+
+-- where each number stands in a node's row, the kind first
+abbrev pub markColumn : ℕ
+markColumn = 1
+
+abbrev pub delayColumn : ℕ
+delayColumn = 2
+
+abbrev pub latencyColumn : ℕ
+latencyColumn = 3
+
+abbrev pub countColumn : ℕ
+countColumn = 4
+
+abbrev pub operandColumn : ℕ
+operandColumn = 5
+
+-- and in a difference's, its u first
+abbrev pub toColumn : ℕ
+toColumn = 1
+
+abbrev pub plusColumn : ℕ
+plusColumn = 2
+
+abbrev pub minusColumn : ℕ
+minusColumn = 3
+
+-- the lengths of the tables: rows for the most nodes and differences that a sheet can have
+abbrev pub nodesWide : ℕ
+nodesWide = 4096
+
+abbrev pub differencesWide : ℕ
+differencesWide = 4096
+
+abbrev pub markOf : Bool → ℕ
+markOf b = cond b 1 0
+
+-- kind, output mark, d, lat, operand count
+abbrev pub headRow : Head → List ℕ
+headRow h = codeOf (h .kind) ∷ markOf (h .output) ∷ h .delay ∷ latencyOf (h .kind) ∷ h .count ∷ []
+
+-- the same and the operands
+abbrev pub nodeRow : Node → List ℕ
+nodeRow v = codeOf (v .kind) ∷ markOf (v .output) ∷ v .delay ∷ latencyOf (v .kind) ∷ length (v .operands) ∷ v .operands
+
+abbrev pub differenceRow : Difference → List ℕ
+differenceRow d = d .from ∷ d .to ∷ d .plus ∷ d .minus ∷ []
+
+-- the numbers at p, p + 1, ..
+unfoldable pub storeFrom : (table : List ℕ) → (p : ℕ) → List ℕ → List ℕ
+storeFrom g p [] = g
+storeFrom g p (x ∷ xs) = storeFrom (set g p x) (p + 1) xs
+
+-- the rows i, i + 1, .., each from its place on
+unfoldable pub storeRows : (place : ℕ → ℕ) → (table : List ℕ) → (i : ℕ) → List (List ℕ) → List ℕ
+unfolding storeFrom
+storeRows place g i [] = g
+storeRows place g i (r ∷ rs) = storeRows place (storeFrom g (place i) r) (i + 1) rs
+
+abbrev pub nodePlace : ℕ → ℕ
+nodePlace v = v * nodeStride
+
+-- where the operands of a node begin
+abbrev pub operandPlace : ℕ → ℕ
+operandPlace v = nodePlace v + operandColumn
+
+abbrev pub differencePlace : ℕ → ℕ
+differencePlace i = i * differenceStride
+
+-- tables without a row
+abbrev pub noNodes : List ℕ
+noNodes = replicate nodesWide 0
+
+abbrev pub noDifferences : List ℕ
+noDifferences = replicate differencesWide 0
+
+-- the table of a sheet's nodes, and that of its differences
+unfoldable pub graphOf : Sheet → List ℕ
+unfolding storeRows
+graphOf S = storeRows nodePlace noNodes 0 (map nodeRow (S .nodes))
+
+unfoldable pub differencesOf : Sheet → List ℕ
+unfolding storeRows
+differencesOf S = storeRows differencePlace noDifferences 0 (map differenceRow (S .differences))
+
+-- what stands in the table of nodes at node v
+module _ (g : List ℕ) (v : ℕ) where
+  abbrev pub kindIn : ℕ
+  kindIn = getD g (nodePlace v) 0
+
+  abbrev pub markIn : ℕ
+  markIn = getD g (nodePlace v + markColumn) 0
+
+  abbrev pub delayIn : ℕ
+  delayIn = getD g (nodePlace v + delayColumn) 0
+
+  abbrev pub latencyIn : ℕ
+  latencyIn = getD g (nodePlace v + latencyColumn) 0
+
+  abbrev pub countIn : ℕ
+  countIn = getD g (nodePlace v + countColumn) 0
+
+  -- the kind, from its code and the latency
+  abbrev pub kindAt : Kind
+  kindAt = kindOf kindIn latencyIn
+
+  abbrev pub operandIn : ℕ → ℕ
+  operandIn j = getD g (operandPlace v + j) 0
+
+-- the table g holds the nodes of S: at every id below 256 the node's numbers, and 0 where the sheet has no node
+pub record Tabled (S : Sheet) (g : List ℕ) : Type 0 where
+  pub wide : length g ≡ nodesWide
+  pub kinds : (v : ℕ) → v < 256 → kindIn g v ≡ codeOf (node S v .kind)
+  pub marks : (v : ℕ) → v < 256 → markIn g v ≡ markOf (node S v .output)
+  pub delays : (v : ℕ) → v < 256 → delayIn g v ≡ node S v .delay
+  pub latencies : (v : ℕ) → v < 256 → latencyIn g v ≡ latency S v
+  pub counts : (v : ℕ) → v < 256 → countIn g v ≡ length (node S v .operands)
+  pub operands : (v j : ℕ) → v < 256 → j < length (node S v .operands) → operandIn g v j ≡ getD (node S v .operands) j 0
+
+-- what stands in the table of differences at difference i
+module _ (d : List ℕ) (i : ℕ) where
+  abbrev pub fromIn : ℕ
+  fromIn = getD d (differencePlace i) 0
+
+  abbrev pub toIn : ℕ
+  toIn = getD d (differencePlace i + toColumn) 0
+
+  abbrev pub plusIn : ℕ
+  plusIn = getD d (differencePlace i + plusColumn) 0
+
+  abbrev pub minusIn : ℕ
+  minusIn = getD d (differencePlace i + minusColumn) 0
+
+abbrev pub noDifference : Difference
+noDifference = record { from = 0; to = 0; plus = 0; minus = 0 }
+
+abbrev pub differenceAt : Sheet → ℕ → Difference
+differenceAt S i = getD (S .differences) i noDifference
+
+-- the table d holds the differences of S
+pub record Listed (S : Sheet) (d : List ℕ) : Type 0 where
+  pub wide : length d ≡ differencesWide
+  pub froms : (i : ℕ) → i < length (S .differences) → fromIn d i ≡ differenceAt S i .from
+  pub tos : (i : ℕ) → i < length (S .differences) → toIn d i ≡ differenceAt S i .to
+  pub pluses : (i : ℕ) → i < length (S .differences) → plusIn d i ≡ differenceAt S i .plus
+  pub minuses : (i : ℕ) → i < length (S .differences) → minusIn d i ≡ differenceAt S i .minus
+
+-- what code that walks the table rests on: few operands, each below its node
+pub record Falling (g : List ℕ) : Type 0 where
+  pub few : (v : ℕ) → v < 256 → countIn g v ≤ operandsMost
+  pub falls : (v j : ℕ) → v < 256 → j < countIn g v → operandIn g v j < v
+
+abbrev pub headerOf : Sheet → Header
+headerOf S = record { leaves = S .leaves; top = S .top; horizon = S .horizon; nodes = size S; differences = length (S .differences) }
