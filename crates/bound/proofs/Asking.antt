@@ -7,14 +7,14 @@ use mathlib.Core.Logic.{_⊎_, inl, inr}
 use native.Mathlib.Omega.{arith}
 use native.Mathlib.Numerals.{add-one}
 use native.Mathlib.Nat.{not-suc-le-zero}
-use lib.Dec.{eqb}
+use lib.Dec.{eqb, ltb}
 use lib.ListN.{length, getD, set, replicate, getD-replicate}
 use lib.Seq.{getD-set-same, getD-set-other}
-use borrow.Author.Tests.{eqb-true, eqb-false}
+use borrow.Author.Tests.{eqb-true, eqb-false, ltb-true, ltb-false}
 use Rattle.maps.proofs.Over.{last-or}
 use Rattle.rows.specs.Table.{operandIn, latencyIn, toIn}
-use Rattle.bound.specs.Lookup.{lastInto, Linked}
-use Rattle.bound.specs.Bound.{Greatest, readyStep}
+use Rattle.bound.specs.Lookup.{lastInto, Linked, Heeded, Heeding}
+use Rattle.bound.specs.Bound.{Greatest, readyStep, Into}
 
 module _ (s : ℕ) (x : ℕ → ℕ) where
   pub greatest-none : (P : ℕ → Type 0) → ((i : ℕ) → P i → ⊥) → Greatest s P x s
@@ -102,3 +102,30 @@ module _ (d : List ℕ) where
       link j (inr q) =
           ap (λ (w : ℕ). getD (set next i (getD first (toIn d i) 0)) w 0) q ∙ getD-set-same next i (getD first (toIn d i) 0) 0 n
           ∙ k .heads (toIn d i) to ∙ ap (λ (w : ℕ). lastInto d w (toIn d w)) (sym q)
+
+  -- whole lists are lists of some nodes, and each difference is in one
+  pub linked-heeding : {m : ℕ} {first next : List ℕ} → Linked d m first next → Heeding d m first next
+  linked-heeding k = record { heads = λ v l h. k .heads v l; nexts = k .nexts }
+
+  pub linked-heeded : {m : ℕ} {first next : List ℕ} → Linked d m first next → (i : ℕ) → i < m → toIn d i < 256 → Heeded first (toIn d i)
+  linked-heeded {m} {first} k i l t = go (ltb 0 (getD first (toIn d i) 0)) refl
+    where
+      go : (b : Bool) → ltb 0 (getD first (toIn d i) 0) ≡ b → Heeded first (toIn d i)
+      go true e = ltb-true 0 (getD first (toIn d i) 0) e
+      go false e =
+          absurd (last-none m (toIn d i) i (omega (arith, ltb-false 0 (getD first (toIn d i) 0) e, k .heads (toIn d i) t)) l refl)
+
+  -- where the list of v begins
+  module _ {m : ℕ} {first next : List ℕ} (k : Heeding d m first next) (v : ℕ) (l : v < 256) where
+    pub head-le : getD first v 0 ≤ m
+    head-le = go (ltb 0 (getD first v 0)) refl
+      where
+        go : (b : Bool) → ltb 0 (getD first v 0) ≡ b → getD first v 0 ≤ m
+        go true e = omega (arith, k .heads v l (ltb-true 0 (getD first v 0) e), last-le m v)
+        go false e = omega (arith, ltb-false 0 (getD first v 0) e)
+
+    pub head-hit : (j : ℕ) → getD first v 0 ≡ j + 1 → toIn d j ≡ v
+    head-hit j e = last-hit m v j (sym (k .heads v l (omega arith)) ∙ e)
+
+    pub head-none : (i : ℕ) → getD first v 0 ≤ i → Into d first m v i → ⊥
+    head-none i h w = last-none m v i (omega (arith, k .heads v l (w .2))) (w .0) (w .1)

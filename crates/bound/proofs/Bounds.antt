@@ -1,5 +1,5 @@
 -- The one law of the lower bounds on a node's step: what operands and differences ask in the tables is what the sheet asks.
-use Prim.Native.Nat.{ℕ, _+_, _-_, _≤_, _<_}
+use Prim.Native.Nat.{ℕ, _+_, _≤_, _<_}
 use mathlib.Core.Path.{_≡_, sym, subst, ap, _∙_}
 use mathlib.Core.List.{List, List·Memᴰ}
 use native.Mathlib.Omega.{arith}
@@ -11,10 +11,10 @@ use Rattle.maps.proofs.Member.{All-at, mem-out, mem-in, mem-index, index-mem}
 use Rattle.rows.specs.Table.{countIn, operandIn, latencyIn, fromIn, toIn, plusIn, minusIn, differenceAt, noDifference}
 use Rattle.rows.specs.declared.Header as R
 use Rattle.relax.specs.Guard.{NodeOk, DiffsInto}
-use Rattle.relax.specs.Settle.{Asks}
+use Rattle.relax.specs.Settle.{ForcedStep, Asks}
 use Rattle.relax.proofs.Closed.{Closed, well-closed, inside, ready-step}
-use Rattle.bound.specs.Lookup.{labelIn}
-use Rattle.bound.specs.Bound.{Greatest, readyStep}
+use Rattle.bound.specs.Lookup.{labelIn, Heeded}
+use Rattle.bound.specs.Bound.{Greatest, readyStep, Into, pushOf}
 use Rattle.bound.specs.Going.{Given, Timed}
 use Rattle.bound.proofs.Safety.{graph-falls, soon-all, summed-all}
 
@@ -28,9 +28,6 @@ module _ (S : Sheet) (graph differences : List ℕ) (limits : R.Header) (given :
 
   id : v < 256
   id = omega (arith, given .well .size .most)
-
-  abbrev pushOf : ℕ → ℕ
-  pushOf i = getD steps (fromIn differences i) 0 + plusIn differences i - minusIn differences i
 
   -- operand j of v
   operand-is : (j : ℕ) → j < length (node S v .operands) → readyStep graph steps v j ≡ L (getD (node S v .operands) j 0) .step + latency S (getD (node S v .operands) j 0)
@@ -58,72 +55,83 @@ module _ (S : Sheet) (graph differences : List ℕ) (limits : R.Header) (given :
       let r = mem-index noDifference (S .differences) m in
       (r .0, subst (At (r .0)) (r .2) (at-place (r .0) (omega (arith, r .1, given .count))))
 
-  module _ (s r : ℕ) (ops : Greatest (getD steps v 0) (λ j. j < countIn graph v) (readyStep graph steps v) s)
-      (diffs : Greatest s (λ i. (i < limits .differences) × (toIn differences i ≡ v)) pushOf r) where
-    asked : (Q : ℕ → Label) → ((u : ℕ) → u < size S → L u ≼ Q u) → NodeOk S Q v → DiffsInto S Q v → r ≤ Q v .step
-    asked Q up ok into = diffs .least (Q v .step) (ops .least (Q v .step) (up v l .steps) operand) difference
-      where
-        operand : (j : ℕ) → j < countIn graph v → readyStep graph steps v j ≤ Q v .step
-        operand j h =
-            let k : j < length (node S v .operands) = omega (arith, given .tabled .counts v id) in
-            let u = getD (node S v .operands) j 0 in
-            let m = index-mem 0 (node S v .operands) j k in
-            let low : u < v = closed .ordered v u (mem-in (node S v .operands) m) in
-            omega (arith, operand-is j k, up u (omega arith) .steps, ready-step (latency S u) (Q u), All-at (λ u. readyOf S Q u .step ≤ Q v .step) (node S v .operands) (ok .after) m)
+  -- what difference i asks of v is forced
+  push-under : (Q : ℕ → Label) → ((u : ℕ) → u < size S → L u ≼ Q u) → DiffsInto S Q v → (i : ℕ) → i < limits .differences → toIn differences i ≡ v
+      → pushOf differences steps i ≤ Q v .step
+  push-under Q up into i h t =
+      let d = differenceAt S i in
+      let m = index-mem noDifference (S .differences) i (omega (arith, given .count)) in
+      let a = at-place i h in
+      let e : d .to ≡ v = sym (a .to) ∙ t in
+      omega (
+        arith,
+        ap (λ (u : ℕ). getD steps u 0) (a .from),
+        a .plus,
+        a .minus,
+        up (d .from) (inside S closed d m .0) .steps,
+        into .into d m e,
+        ap (λ (u : ℕ). Q u .step) e,
+      )
 
-        difference : (i : ℕ) → (i < limits .differences) × (toIn differences i ≡ v) → pushOf i ≤ Q v .step
-        difference i h =
-            let d = differenceAt S i in
-            let m = index-mem noDifference (S .differences) i (omega (arith, given .count, h .0)) in
-            let a = at-place i (h .0) in
-            let e : d .to ≡ v = sym (a .to) ∙ h .1 in
-            omega (
-              arith,
-              ap (λ (u : ℕ). getD steps u 0) (a .from),
-              a .plus,
-              a .minus,
-              up (d .from) (inside S closed d m .0) .steps,
-              into .into d m e,
-              ap (λ (u : ℕ). Q u .step) e,
-            )
+  own-small : getD steps v 0 + latencyIn graph v < 4294967295
+  own-small = soon-all given timed v (omega (arith, given .nodes))
 
-    pub asks-tables : Asks S L v r
-    asks-tables =
-        record {
-          asked = asked;
-          own = omega (arith, ops .own, diffs .own);
-          after = λ u e.
-              let p = mem-index 0 (node S v .operands) (mem-out u (node S v .operands) e) in
-              omega (
-                arith,
-                ops .all (p .0) (omega (arith, p .1, given .tabled .counts v id)),
-                diffs .own,
-                operand-is (p .0) (p .1),
-                ap (λ (w : ℕ). L w .step) (p .2),
-                ap (latency S) (p .2),
-              );
-          into = λ d m e.
-              let a = at-member d m in
-              omega (
-                arith,
-                diffs .all (a .0) (a .1 .within, a .1 .to ∙ e),
-                ap (λ (u : ℕ). getD steps u 0) (a .1 .from),
-                a .1 .plus,
-                a .1 .minus,
-              );
-        }
+  module _ (first : List ℕ) (s r : ℕ) (diffs : Greatest s (Into differences first (limits .differences) v) (pushOf differences steps) r) where
+    -- the differences into v alone
+    pub push-forced : s ≡ getD steps v 0 → ForcedStep S L v r
+    push-forced e =
+        record { asked = λ Q up ok into. diffs .least (Q v .step) (omega (arith, up v l .steps)) (λ i h. push-under Q up into i (h .0) (h .1)) }
 
-    pub asks-small : r < 4294967295
-    asks-small =
-        let b : r ≤ 4294967294 = diffs .least 4294967294 (ops .least 4294967294 (omega (arith, own)) operand) difference in omega arith
-      where
-        own : getD steps v 0 + latencyIn graph v < 4294967295
-        own = soon-all given timed v (omega (arith, given .nodes))
+    pub push-small : s ≤ 4294967294 → r < 4294967295
+    push-small h =
+        let b : r ≤ 4294967294 = diffs .least 4294967294 h (λ i k. omega (arith, summed-all given timed i (k .0) .ahead)) in omega arith
 
-        operand : (j : ℕ) → j < countIn graph v → readyStep graph steps v j ≤ 4294967294
-        operand j h =
-            let u = graph-falls given .falls v j id h in
-            omega (arith, soon-all given timed (operandIn graph v j) (omega (arith, given .nodes)))
+    -- r is late enough for each difference of the sheet into v, where v is heeded
+    pub push-heeds : Heeded first v → (d : Difference) → List·Memᴰ d (S .differences) → d .to ≡ v → L (d .from) .step + d .plus ≤ r + d .minus
+    push-heeds h d m e =
+        let a = at-member d m in
+        omega (
+          arith,
+          diffs .all (a .0) (a .1 .within, a .1 .to ∙ e, h),
+          ap (λ (u : ℕ). getD steps u 0) (a .1 .from),
+          a .1 .plus,
+          a .1 .minus,
+        )
 
-        difference : (i : ℕ) → (i < limits .differences) × (toIn differences i ≡ v) → pushOf i ≤ 4294967294
-        difference i h = omega (arith, summed-all given timed i (h .0) .ahead)
+    -- with the operands
+    module _ (ops : Greatest (getD steps v 0) (λ j. j < countIn graph v) (readyStep graph steps v) s) where
+      pub asks-tables : Asks S L v r
+      asks-tables =
+          record {
+            forced = record {
+              asked = λ Q up ok into.
+                  diffs .least (Q v .step) (ops .least (Q v .step) (up v l .steps) (operand Q up ok)) (λ i h. push-under Q up into i (h .0) (h .1));
+            };
+            own = omega (arith, ops .own, diffs .own);
+            after = λ u e.
+                let p = mem-index 0 (node S v .operands) (mem-out u (node S v .operands) e) in
+                omega (
+                  arith,
+                  ops .all (p .0) (omega (arith, p .1, given .tabled .counts v id)),
+                  diffs .own,
+                  operand-is (p .0) (p .1),
+                  ap (λ (w : ℕ). L w .step) (p .2),
+                  ap (latency S) (p .2),
+                );
+          }
+        where
+          operand : (Q : ℕ → Label) → ((u : ℕ) → u < size S → L u ≼ Q u) → NodeOk S Q v → (j : ℕ) → j < countIn graph v → readyStep graph steps v j ≤ Q v .step
+          operand Q up ok j h =
+              let k : j < length (node S v .operands) = omega (arith, given .tabled .counts v id) in
+              let u = getD (node S v .operands) j 0 in
+              let m = index-mem 0 (node S v .operands) j k in
+              let low : u < v = closed .ordered v u (mem-in (node S v .operands) m) in
+              omega (arith, operand-is j k, up u (omega arith) .steps, ready-step (latency S u) (Q u), All-at (λ u. readyOf S Q u .step ≤ Q v .step) (node S v .operands) (ok .after) m)
+
+      pub asks-small : r < 4294967295
+      asks-small = push-small (ops .least 4294967294 (omega (arith, own-small)) operand)
+        where
+          operand : (j : ℕ) → j < countIn graph v → readyStep graph steps v j ≤ 4294967294
+          operand j h =
+              let u = graph-falls given .falls v j id h in
+              omega (arith, soon-all given timed (operandIn graph v j) (omega (arith, given .nodes)))

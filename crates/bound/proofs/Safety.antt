@@ -89,4 +89,4 @@ module _ {S : Sheet} {graph differences : List ℕ} {limits : R.Header} (g : Giv
 -- what a pass works on has the bounds of each node
 pub bounding : {S : Sheet} {graph differences : List ℕ} {limits : R.Header} {first next kept steps levels : List ℕ} → Going S graph differences limits first next kept steps levels
     → (v : ℕ) → v < limits .nodes → Bounding S graph differences limits first next steps levels v
-bounding going v l = record { given = going .given; linked = going .linked; timed = going .timed; node = l }
+bounding going v l = record { given = going .given; heeding = going .heeding; timed = going .timed; node = l }

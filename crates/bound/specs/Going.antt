@@ -11,7 +11,7 @@ use Rattle.maps.specs.WellFormed.{WellFormed}
 use Rattle.rows.specs.Table.{Tabled, Listed}
 use Rattle.rows.specs.declared.Header as R
 use Rattle.relax.specs.Settle.{Asks}
-use Rattle.bound.specs.Lookup.{Row, Linked}
+use Rattle.bound.specs.Lookup.{Row, Heeding}
 
 -- the tables and the limits are those of the sheet
 pub record Given (S : Sheet) (graph differences : List ℕ) (limits : R.Header) : Type 0 where
@@ -44,14 +44,14 @@ pub record Timed (S : Sheet) (steps levels : List ℕ) : Type 0 where
 -- what the bounds of node v are taken from
 pub record Bounding (S : Sheet) (graph differences : List ℕ) (limits : R.Header) (first next steps levels : List ℕ) (v : ℕ) : Type 0 where
   pub given : Given S graph differences limits
-  pub linked : Linked differences (limits .differences) first next
+  pub heeding : Heeding differences (limits .differences) first next
   pub timed : Timed S steps levels
   pub node : v < limits .nodes
 
 -- what a pass works on
 pub record Going (S : Sheet) (graph differences : List ℕ) (limits : R.Header) (first next kept steps levels : List ℕ) : Type 0 where
   pub given : Given S graph differences limits
-  pub linked : Linked differences (limits .differences) first next
+  pub heeding : Heeding differences (limits .differences) first next
   pub allKept : AllKept S kept
   pub timed : Timed S steps levels
 

@@ -57,3 +57,12 @@ lastInto d (suc k) v = cond (eqb (toIn d k) v) (suc k) (lastInto d k v)
 pub record Linked (differences : List ℕ) (m : ℕ) (first next : List ℕ) : Type 0 where
   pub heads : (v : ℕ) → v < 256 → getD first v 0 ≡ lastInto differences m v
   pub nexts : (i : ℕ) → i < m → getD next i 0 ≡ lastInto differences i (toIn differences i)
+
+-- the list of v is not empty: the differences into v are heeded
+abbrev pub Heeded : (first : List ℕ) → ℕ → Type 0
+Heeded first v = 0 < getD first v 0
+
+-- the same lists for some nodes; those of the others are empty
+pub record Heeding (differences : List ℕ) (m : ℕ) (first next : List ℕ) : Type 0 where
+  pub heads : (v : ℕ) → v < 256 → Heeded first v → getD first v 0 ≡ lastInto differences m v
+  pub nexts : (i : ℕ) → i < m → getD next i 0 ≡ lastInto differences i (toIn differences i)

@@ -6,7 +6,7 @@ ghost use Rattle.maps.specs.Code.{labelOf};
 ghost use Rattle.maps.specs.Label.{earliest};
 ghost use Rattle.rows.specs.Table.{latencyIn, countIn, Falling};
 ghost use Rattle.bound.specs.Lookup.{labelIn, arrivalIn, Soon};
-ghost use Rattle.bound.specs.Bound.{Carrying, Latest};
+ghost use Rattle.bound.specs.Bound.{Carrying, Latest, LabelPlaced};
 use maps::Label;
 use maps::Level;
 use maps::Step;
@@ -55,6 +55,27 @@ pub fn set_label(steps: &mut Steps, levels: &mut Levels, v: u32, label: Label)
     let level = label.level;
     steps[i] = step.0;
     levels[i] = level.0;
+}
+
+// Gives v a label, unless it then ends after the horizon; whether it does not.
+pub fn place_label(
+    graph: &Graph,
+    steps: &mut Steps,
+    levels: &mut Levels,
+    v: u32,
+    label: Label,
+    horizon: u32,
+) -> bool
+    requires { ⌜ v < 256 ⌝ }
+    ensures { λ r. ⌜ LabelPlaced (now (graph .entry)) (now (steps .entry)) (now (levels .entry)) (now (steps .exit)) (now (levels .exit)) v (labelOf label) horizon r ⌝ }
+{
+    let ready = label.ready(latency_in(graph, v));
+    let end = ready.step;
+    if end.0 > horizon {
+        return false;
+    }
+    set_label(steps, levels, v, label);
+    true
 }
 
 // Gives every node the earliest label.

@@ -1,14 +1,14 @@
 // The least step that a node's own label, its operands and the differences into it ask for.
 ghost use mathlib.Core.Path.{_≡_};
 ghost use mathlib.Core.List.{List};
-ghost use Prim.Native.Nat.{ℕ, _+_, _-_, _<_, _≤_, max};
+ghost use Prim.Native.Nat.{ℕ, _+_, _<_, _≤_, max};
 ghost use lib.ListN.{getD, length};
 ghost use Rattle.maps.specs.Sheet.{Sheet};
 ghost use Rattle.maps.specs.Code.{labelOf};
-ghost use Rattle.rows.specs.Table.{countIn, fromIn, toIn, plusIn, minusIn, Falling};
+ghost use Rattle.rows.specs.Table.{countIn, toIn, Falling};
 ghost use Rattle.relax.specs.Settle.{Asks};
-ghost use Rattle.bound.specs.Lookup.{labelIn, Linked, Soon};
-ghost use Rattle.bound.specs.Bound.{Greatest, readyStep, Summed};
+ghost use Rattle.bound.specs.Lookup.{labelIn, Linked, Heeding, Soon};
+ghost use Rattle.bound.specs.Bound.{Greatest, readyStep, Into, pushOf, Summed};
 ghost use Rattle.bound.specs.Going.{Bounding, Based};
 use crate::arrive::Levels;
 use crate::arrive::Steps;
@@ -77,7 +77,7 @@ pub fn after_operands(graph: &Graph, steps: &Steps, v: u32, s: Step) -> Step
 pub fn pushed(differences: &Differences, steps: &Steps, i: u32, s: Step) -> Step
     requires { ⌜ i < 1024 ⌝ }
     requires { ⌜ Summed (now differences) (now steps) i ⌝ }
-    ensures { λ r. ⌜ r .0 ≡ max (s .0) (getD (now (steps .entry)) (fromIn (now (differences .entry)) i) 0 + plusIn (now (differences .entry)) i - minusIn (now (differences .entry)) i) ⌝ }
+    ensures { λ r. ⌜ r .0 ≡ max (s .0) (pushOf (now (differences .entry)) (now (steps .entry)) i) ⌝ }
 {
     let difference = difference_in(differences, i);
     let plus = difference.plus;
@@ -90,7 +90,7 @@ pub fn pushed(differences: &Differences, steps: &Steps, i: u32, s: Step) -> Step
     s.later(Step(ahead - minus))
 }
 
-// The latest of s and the steps that the differences into v ask for.
+// The latest of s and the steps that the differences in the list of v ask for.
 pub fn after_differences(
     differences: &Differences,
     first: &[u32; 256],
@@ -101,9 +101,9 @@ pub fn after_differences(
     s: Step,
 ) -> Step
     requires { ⌜ (v < 256) × (m ≤ 1024) ⌝ }
-    requires { ⌜ Linked (now differences) m (now first) (now next) ⌝ }
+    requires { ⌜ Heeding (now differences) m (now first) (now next) ⌝ }
     requires { ⌜ ((i : ℕ) → i < m → Summed (now differences) (now steps) i) ⌝ }
-    ensures { λ r. ⌜ Greatest (s .0) (λ i. (i < m) × (toIn (now (differences .entry)) i ≡ v)) (λ i. getD (now (steps .entry)) (fromIn (now (differences .entry)) i) 0 + plusIn (now (differences .entry)) i - minusIn (now (differences .entry)) i) (r .0) ⌝ }
+    ensures { λ r. ⌜ Greatest (s .0) (Into (now (differences .entry)) (now (first .entry)) m v) (pushOf (now (differences .entry)) (now (steps .entry))) (r .0) ⌝ }
 {
     let mut most = s;
     let mut e = first[v as usize];
@@ -114,7 +114,7 @@ pub fn after_differences(
     most
 }
 
-// The least step of v that its own label, its operands and the differences into it allow.
+// The least step of v that its own label, its operands and the differences in its list allow.
 pub fn step_asked(
     graph: &Graph,
     differences: &Differences,
@@ -127,6 +127,7 @@ pub fn step_asked(
     requires { ⌜ ((S : Sheet) × (levels : List ℕ) × Bounding S (now graph) (now differences) limits (now first) (now next) (now steps) levels v) ⌝ }
     ensures { λ r. ⌜ ((S : Sheet) (levels : List ℕ) → Bounding S (now (graph .entry)) (now (differences .entry)) limits (now (first .entry)) (now (next .entry)) (now (steps .entry)) levels v
         → Asks S (labelIn (now (steps .entry)) levels) v (r .0) × (r .0 < 4294967295)) ⌝ }
+    ensures { λ r. ⌜ ((i : ℕ) → Into (now (differences .entry)) (now (first .entry)) (limits .differences) v i → pushOf (now (differences .entry)) (now (steps .entry)) i ≤ r .0) ⌝ }
 {
     let own = step_of(steps, v);
     let s = after_operands(graph, steps, v, own);

@@ -1,9 +1,10 @@
--- The marks of held nodes: what one mark more changes, what the loops over nodes and differences keep, and that the marks are in the end
--- exactly the held nodes.
-use Prim.Native.Nat.{ℕ, zero, suc, _+_, _≤_, _<_}
+-- The marks of held nodes: what one mark more changes, what a sweep over the nodes keeps, and that the marks are in the end exactly the held
+-- nodes.
+use Prim.Native.Nat.{ℕ, _+_, _≤_, _<_}
 use mathlib.Core.Path.{_≡_, refl, sym, ap, _∙_, subst}
 use mathlib.Core.Bool.{Bool, true, false, not}
-use mathlib.Core.List.{List, [], _∷_}
+use mathlib.Core.List.{List}
+use mathlib.Core.Logic.{inl, inr}
 use native.Mathlib.Omega.{arith}
 use native.Mathlib.Decide.{ℕ-discrete}
 use lib.Dec.{eqb}
@@ -12,10 +13,10 @@ use lib.Seq.{getD-set-same, getD-set-other}
 use borrow.Author.Count.{below-none, below-more}
 use borrow.Author.Tests.{eq-eqb, ne-eqb, eqb-true, not-false}
 use Rattle.maps.proofs.Member.{zeros-at}
-use Rattle.rows.specs.Table.{countIn, operandIn, latencyIn, toIn, Falling}
-use Rattle.rows.specs.Cells.{zeros, Ends}
+use Rattle.rows.specs.Table.{operandIn, latencyIn}
+use Rattle.rows.specs.Cells.{zeros}
 use Rattle.rows.proofs.Cells.{zeros-mark}
-use Rattle.hold.specs.Mark.{HeldIn, zero-in, operand-in, target-in, Floats, heldIn, OnlyHeld, HeldZero, More, Near, ByOperand, NodeHeld, HeldOperands, NodesHeld, HeldDifference, TargetHeld, Marked, Swept, AllMarked}
+use Rattle.hold.specs.Mark.{HeldIn, zero-in, operand-in, target-in, Floats, heldIn, OnlyHeld, HeldZero, Near, Holdable, NodeHeld, Marked, Swept, AllMarked}
 
 -- ---- tests
 
@@ -48,37 +49,18 @@ module _ (graph steps held : List ℕ) (v j : ℕ) {u ready own : ℕ} (e : u �
 
 -- ---- one mark
 
-pub held-here : (l : List ℕ) (v : ℕ) → v < length l → heldIn (set l v 1) v ≡ true
+held-here : (l : List ℕ) (v : ℕ) → v < length l → heldIn (set l v 1) v ≡ true
 held-here l v h = ap (λ (x : ℕ). not (eqb x 0)) (getD-set-same l v 1 0 h)
 
 held-there : (l : List ℕ) (v u : ℕ) → (u ≡ v → ⊥) → heldIn (set l v 1) u ≡ heldIn l u
 held-there l v u f = ap (λ (x : ℕ). not (eqb x 0)) (getD-set-other l v u 1 0 f)
 
-pub held-below : (l : List ℕ) (v u : ℕ) → u < v → heldIn (set l v 1) u ≡ heldIn l u
-held-below l v u h = held-there l v u (λ e. omega arith)
-
-zeros-less : (l : List ℕ) (i : ℕ) → zeros (set l i 1) ≤ zeros l
-unfolding zeros
-zeros-less [] i = omega arith
-zeros-less (a ∷ l) zero = omega arith
-zeros-less (a ∷ l) (suc i) = let ih = zeros-less l i in omega arith
-
-pub more-none : (l : List ℕ) → More l l
-more-none l = record { wide = refl; still = λ v e. e; fewer = omega arith }
-
-pub more-then : {a b c : List ℕ} → More a b → More b c → More a c
-more-then p q =
-    record { wide = q .wide ∙ p .wide; still = λ v e. q .still v (p .still v e); fewer = omega (arith, p .fewer, q .fewer) }
-
-pub more-mark : (l : List ℕ) (v : ℕ) → v < length l → More l (set l v 1)
-more-mark l v h = record { wide = length-set l v 1; still = λ u e. go u e (ℕ-discrete u v); fewer = zeros-less l v }
+held-still : (l : List ℕ) (v u : ℕ) → v < length l → heldIn l u ≡ true → heldIn (set l v 1) u ≡ true
+held-still l v u h e = go (ℕ-discrete u v)
   where
-    go : (u : ℕ) → heldIn l u ≡ true → Dec (u ≡ v) → heldIn (set l v 1) u ≡ true
-    go u e (yes p) = ap (heldIn (set l v 1)) p ∙ held-here l v h
-    go u e (no f) = held-there l v u f ∙ e
-
-pub marked-new : (l : List ℕ) (v : ℕ) → v < length l → getD l v 0 ≡ 0 → Marked l (set l v 1) true
-marked-new l v h e = (more-mark l v h, omega (arith, zeros-mark l v h e))
+    go : Dec (u ≡ v) → heldIn (set l v 1) u ≡ true
+    go (yes p) = ap (heldIn (set l v 1)) p ∙ held-here l v h
+    go (no f) = held-there l v u f ∙ e
 
 -- ---- the nodes of step 0
 
@@ -95,7 +77,7 @@ zero-mark {steps} {held} {v} g l e =
     let h : v < length held = omega (arith, g .wide) in
     record {
       wide = length-set held v 1 ∙ g .wide;
-      zero-held = below-more _ v (λ u k z. more-mark held v h .still u (g .zero-held u k z)) (λ z. held-here held v h);
+      zero-held = below-more _ v (λ u k z. held-still held v u h (g .zero-held u k z)) (λ z. held-here held v h);
       only = λ u k. go u k (ℕ-discrete u v);
     }
   where
@@ -111,135 +93,111 @@ zero-skip {steps} {held} {v} g f =
       only = λ u k. let o = g .only u k in (omega (arith, o .0), o .1);
     }
 
--- ---- operands
+-- ---- a sweep over the nodes
 
--- one mark more, of a node that is held
-only-mark : (graph differences steps held : List ℕ) (n m v : ℕ) → OnlyHeld graph differences steps held n m → HeldIn graph differences steps n m v
-    → OnlyHeld graph differences steps (set held v 1) n m
-only-mark graph differences steps held n m v only h u k = go (ℕ-discrete u v)
-  where
-    go : Dec (u ≡ v) → HeldIn graph differences steps n m u
-    go (yes p) = subst (HeldIn graph differences steps n m) (sym p) h
-    go (no f) = only u (sym (held-there held v u f) ∙ k)
+marked-new : (l : List ℕ) (v : ℕ) → v < length l → heldIn l v ≡ false → Marked l (set l v 1) true
+marked-new l v h e =
+    (record { wide = length-set l v 1; still = λ u. held-still l v u h }, omega (arith, zeros-mark l v h (held-none l v e)))
 
-module _ (graph steps held : List ℕ) (n : ℕ) where
-  pub nodes-none : NodesHeld graph steps held held n 0
-  nodes-none = record { grown = more-none held; operands = below-none _; only = λ d m h. h }
+marked-then : (a b c : List ℕ) (g : Bool) → Marked a b g → Marked b c true → Marked a c true
+marked-then a b c true p q =
+    (record { wide = q .0 .wide ∙ p .0 .wide; still = λ v e. q .0 .still v (p .0 .still v e) }, omega (arith, p .1, q .1))
+marked-then a b c false p q = subst (λ (l : List ℕ). Marked l c true) p q
 
-  -- the turn of v marks no lower node, so what is held of the lower ones stays closed
-  module _ (mid : List ℕ) (v : ℕ) (low : v < 256) (within : v < n) (falling : Falling graph) (wide : v < length mid) (s : NodesHeld graph steps held mid n v) where
-    back : (u : ℕ) → u < v → (j : ℕ) → j < countIn graph u → Near graph steps (set mid v 1) u j → Near graph steps mid u j
-    back u l j h near =
-        let f = falling .falls u j (omega arith) h in
-        record { holds = sym (held-below mid v (operandIn graph u j) (omega arith)) ∙ near .holds; close = near .close }
-
-    turn : (t : Bool) → ByOperand graph steps mid v t → (more : List ℕ) → Ends t (more ≡ set mid v 1) (more ≡ mid) → NodesHeld graph steps held more n (v + 1)
-    turn true by more e =
-        subst (λ (l : List ℕ). NodesHeld graph steps held l n (v + 1)) (sym e)
-        (record {
-          grown = more-then (s .grown) (more-mark mid v wide);
-          operands = below-more _ v (λ u l j h near. more-mark mid v wide .still u (s .operands u l j h (back u l j h near)))
-              (λ j h near. held-here mid v wide);
-          only = λ d m h.
-              only-mark graph d steps mid n m v (s .only d m h)
-              (operand-in v (by .0) within (by .1) (s .only d m h (operandIn graph v (by .0)) (by .2 .holds)) (by .2 .close));
-        })
-    turn false none more e =
-        subst (λ (l : List ℕ). NodesHeld graph steps held l n (v + 1)) (sym e)
-        (record {
-          grown = s .grown;
-          operands = below-more _ v (s .operands) (λ j h near. absurd (none j h near));
-          only = s .only;
-        })
-
-    pub nodes-turn : (more : List ℕ) → NodeHeld graph steps mid more v → NodesHeld graph steps held more n (v + 1)
-    nodes-turn more h = turn (h .some) (h .by) more (h .marks)
-
--- ---- differences
-
-pub marked-wide : (a b : List ℕ) (g : Bool) → Marked a b g → length b ≡ length a
+marked-wide : (a b : List ℕ) (g : Bool) → Marked a b g → length b ≡ length a
 marked-wide a b true p = p .0 .wide
 marked-wide a b false p = ap length p
 
-marked-then : (a b c : List ℕ) (g : Bool) → Marked a b g → Marked b c true → Marked a c true
-marked-then a b c true p q = (more-then (p .0) (q .0), omega (arith, p .1, q .1))
-marked-then a b c false p q = subst (λ (l : List ℕ). Marked l c true) p q
+module _ {graph differences steps : List ℕ} {n m : ℕ} where
+  -- what a marked node holds is held
+  held-next : (held : List ℕ) (v : ℕ) → OnlyHeld graph differences steps held n m → v < n → Holdable graph differences steps held m v
+      → HeldIn graph differences steps n m v
+  held-next held v only l (inl w) = operand-in v (w .0) l (w .1) (only _ (w .2 .holds)) (w .2 .close)
+  held-next held v only l (inr w) =
+      let t = w .1 in
+      let p = t .into in
+      subst (HeldIn graph differences steps n m) p (target-in (w .0) (t .within) (omega arith) (only _ (t .ties .holds)) (t .ties .tight))
 
-module _ (differences steps a : List ℕ) (m : ℕ) where
-  pub swept-none : Swept differences steps a a m 0 false
-  swept-none = record { marked = refl; closed = λ z. below-none _; only = λ graph n h. h }
+  -- one mark more, of a node that is held
+  only-mark : (held : List ℕ) (v : ℕ) → OnlyHeld graph differences steps held n m → HeldIn graph differences steps n m v
+      → OnlyHeld graph differences steps (set held v 1) n m
+  only-mark held v only h u k = go (ℕ-discrete u v)
+    where
+      go : Dec (u ≡ v) → HeldIn graph differences steps n m u
+      go (yes p) = subst (HeldIn graph differences steps n m) (sym p) h
+      go (no f) = only u (sym (held-there held v u f) ∙ k)
 
-  module _ (b c : List ℕ) (i : ℕ) (g : Bool) (l : i < m) (s : Swept differences steps a b m i g) where
-    pub swept-yes : toIn differences i < length b → (r : Bool) → r ≡ true → TargetHeld differences steps b c i r → Swept differences steps a c m (i + 1) true
-    swept-yes wide r e t =
-        let w = subst (TargetHeld differences steps b c i) e t in
-        let v = toIn differences i in
-        subst (λ (l : List ℕ). Swept differences steps a l m (i + 1) true) (sym (w .1))
+  pub swept-none : {a : List ℕ} {low high : ℕ} → high ≤ low → Swept graph differences steps a a n m low high false
+  swept-none l = record { marked = refl; closed = λ z v b t. absurd (omega arith); only = λ h. h }
+
+  module _ {a b : List ℕ} {low high : ℕ} {g : Bool} (s : Swept graph differences steps a b n m low high g) where
+    pub swept-wide : length b ≡ length a
+    swept-wide = marked-wide a b g (s .marked)
+
+    -- the turn of v: the nodes from low up to high had theirs, and now those from low' up to high' have
+    pub swept-yes : {c : List ℕ} {low' high' : ℕ} (v : ℕ) → v < n → v < length b → NodeHeld graph differences steps b c m v true
+        → Swept graph differences steps a c n m low' high' true
+    swept-yes {c} {low'} {high'} v l wide t =
+        subst (λ (x : List ℕ). Swept graph differences steps a x n m low' high' true) (sym (t .2))
         (record {
-          marked = marked-then a b (set b v 1) g (s .marked) (marked-new b v wide (held-none b v (w .0 .fresh)));
+          marked = marked-then a b (set b v 1) g (s .marked) (marked-new b v wide (t .0));
           closed = λ z. absurd (not-both refl z);
-          only = λ graph n h. only-mark graph differences steps b n m v (s .only graph n h) (target-in i l (s .only graph n h _ (w .0 .holds)) (w .0 .tight));
+          only = λ h. only-mark b v (s .only h) (held-next b v (s .only h) l (t .1));
         })
 
-    pub swept-no : (r : Bool) → r ≡ false → TargetHeld differences steps b c i r → Swept differences steps a c m (i + 1) g
-    swept-no r e t =
-        let w = subst (TargetHeld differences steps b c i) e t in
-        subst (λ (l : List ℕ). Swept differences steps a l m (i + 1) g) (sym (w .1))
-        (record { marked = s .marked; closed = λ z. below-more _ i (s .closed z) (w .0); only = s .only })
+    pub swept-no : {c : List ℕ} {low' high' : ℕ} (v : ℕ) → ((u : ℕ) → low' ≤ u → u < high' → (u ≡ v → ⊥) → (low ≤ u) × (u < high))
+        → NodeHeld graph differences steps b c m v false → Swept graph differences steps a c n m low' high' g
+    swept-no {c} {low'} {high'} v rest t =
+        subst (λ (x : List ℕ). Swept graph differences steps a x n m low' high' g) (sym (t .1))
+        (record { marked = s .marked; closed = λ z u f h. at z u f h (ℕ-discrete u v); only = s .only })
+      where
+        at : g ≡ false → (u : ℕ) → low' ≤ u → u < high' → Dec (u ≡ v) → Holdable graph differences steps b m u → heldIn b u ≡ true
+        at z u f h (yes p) = subst (λ (x : ℕ). Holdable graph differences steps b m x → heldIn b x ≡ true) (sym p) (t .0)
+        at z u f h (no q) = let w = rest u f h q in s .closed z u (w .0) (w .1)
 
 -- ---- all marks
 
--- between two sweeps over the differences: the marks are closed under holding but for the differences, and only what is held is marked
+-- between two sweeps: the nodes of step 0 are marked, and only what is held is
 pub record Marks (graph differences steps held : List ℕ) (n m : ℕ) : Type 0 where
   pub wide : length held ≡ 256
   pub zero-held : (v : ℕ) → v < n → getD steps v 0 ≡ 0 → heldIn held v ≡ true
-  pub operands : (v : ℕ) → v < n → HeldOperands graph steps held v
   pub only : OnlyHeld graph differences steps held n m
 
-module _ (graph differences steps : List ℕ) (n m : ℕ) where
-  pub marks-first : (held more : List ℕ) → HeldZero steps held n → NodesHeld graph steps held more n n → Marks graph differences steps more n m
-  marks-first held more z h =
-      record {
-        wide = h .grown .wide ∙ z .wide;
-        zero-held = λ v l e. h .grown .still v (z .zero-held v l e);
-        operands = h .operands;
-        only = h .only differences m (λ v k. let o = z .only v k in zero-in v (o .0) (o .1));
-      }
+module _ {graph differences steps : List ℕ} {n m : ℕ} where
+  pub marks-first : {held : List ℕ} → HeldZero steps held n → Marks graph differences steps held n m
+  marks-first z =
+      record { wide = z .wide; zero-held = z .zero-held; only = λ v k. let o = z .only v k in zero-in v (o .0) (o .1) }
 
-  pub marks-again : (held mid more : List ℕ) → Marks graph differences steps held n m → (r : Bool) → r ≡ true → Swept differences steps held mid m m r
-      → NodesHeld graph steps mid more n n → Marks graph differences steps more n m × (zeros more < zeros held)
-  marks-again held mid more k r e w h =
-      let g = subst (Marked held mid) e (w .marked) in (
+  -- a sweep that marks something
+  pub marks-again : {held more : List ℕ} → Marks graph differences steps held n m → Swept graph differences steps held more n m 0 n true
+      → Marks graph differences steps more n m × (zeros more < zeros held)
+  marks-again k w =
+      let g = w .marked in (
         record {
-          wide = h .grown .wide ∙ g .0 .wide ∙ k .wide;
-          zero-held = λ v l z. h .grown .still v (g .0 .still v (k .zero-held v l z));
-          operands = h .operands;
-          only = h .only differences m (w .only graph n (k .only));
+          wide = g .0 .wide ∙ k .wide;
+          zero-held = λ v l z. g .0 .still v (k .zero-held v l z);
+          only = w .only (k .only);
         },
-        omega (arith, g .1, h .grown .fewer),
+        g .1,
       )
 
   -- marks that are closed under holding have every held node
-  marks-all : (held : List ℕ) → Marks graph differences steps held n m → ((i : ℕ) → i < m → HeldDifference differences steps held i)
+  marks-all : {held : List ℕ} → Marks graph differences steps held n m
+      → ((v : ℕ) → v < n → Holdable graph differences steps held m v → heldIn held v ≡ true)
       → (v : ℕ) → HeldIn graph differences steps n m v → heldIn held v ≡ true
-  marks-all held k t v (zero-in u l e) = k .zero-held v l e
-  marks-all held k t v (operand-in u j l h o c) =
-      k .operands v l j h (record { holds = marks-all held k t (operandIn graph v j) o; close = c })
-  marks-all held k t v (target-in i l o c) = t i l (marks-all held k t _ o) c
+  marks-all k t v (zero-in u l e) = k .zero-held v l e
+  marks-all k t v (operand-in u j l h o c) = t v l (inl (j, h, record { holds = marks-all k t (operandIn graph v j) o; close = c }))
+  marks-all k t v (target-in i l b o c) =
+      t v b (inr (i, record { within = l; into = refl; ties = record { holds = marks-all k t _ o; tight = c } }))
 
   -- a sweep that marks nothing: the marks are exactly the held nodes
-  pub marks-exact : (held more : List ℕ) → Marks graph differences steps held n m → (r : Bool) → r ≡ false → Swept differences steps held more m m r
+  pub marks-exact : {held more : List ℕ} → Marks graph differences steps held n m → Swept graph differences steps held more n m 0 n false
       → (b : Bool) → AllMarked more n b → Floats graph differences steps n m (not b)
-  marks-exact held more k r e w b h = go b (subst (λ (l : List ℕ). AllMarked l n b) same h)
+  marks-exact {held} {more} k w b h = go b h
     where
-      same : more ≡ held
-      same = subst (Marked held more) e (w .marked)
+      same : Marks graph differences steps more n m
+      same = subst (λ (l : List ℕ). Marks graph differences steps l n m) (sym (w .marked)) k
 
-      go : (b : Bool) → AllMarked held n b → Floats graph differences steps n m (not b)
-      go true all = λ v l. k .only v (all v l)
-      go false f = (
-        f .0,
-        f .1,
-        λ o. not-both
-            (marks-all held k (λ i l. subst (λ (x : List ℕ). HeldDifference differences steps x i) same (w .closed e i l)) (f .0) o) (f .2),
-      )
+      go : (b : Bool) → AllMarked more n b → Floats graph differences steps n m (not b)
+      go true all = λ v l. same .only v (all v l)
+      go false f = (f .0, f .1, λ o. not-both (marks-all same (λ v l. w .closed refl v (omega arith) l) (f .0) o) (f .2))

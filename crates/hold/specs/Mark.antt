@@ -3,6 +3,7 @@ use Prim.Native.Nat.{ℕ, _+_, _≤_, _<_}
 use mathlib.Core.Path.{_≡_}
 use mathlib.Core.Bool.{Bool, true, false, not}
 use mathlib.Core.List.{List}
+use mathlib.Core.Logic.{_⊎_}
 use lib.Dec.{eqb}
 use lib.ListN.{length, getD, set}
 use Rattle.rows.specs.Table.{countIn, operandIn, latencyIn, fromIn, toIn, plusIn, minusIn}
@@ -22,7 +23,7 @@ Tight differences steps i =
 pub data HeldIn (graph differences steps : List ℕ) (n m : ℕ) : ℕ → Type 0 where
   zero-in : (v : ℕ) → v < n → getD steps v 0 ≡ 0 → HeldIn graph differences steps n m v
   operand-in : (v j : ℕ) → v < n → j < countIn graph v → HeldIn graph differences steps n m (operandIn graph v j) → Close graph steps v j → HeldIn graph differences steps n m v
-  target-in : (i : ℕ) → i < m → HeldIn graph differences steps n m (fromIn differences i) → Tight differences steps i → HeldIn graph differences steps n m (toIn differences i)
+  target-in : (i : ℕ) → i < m → toIn differences i < n → HeldIn graph differences steps n m (fromIn differences i) → Tight differences steps i → HeldIn graph differences steps n m (toIn differences i)
 
 -- some node floats: it is held by nothing; or every node is held
 abbrev pub Floats : (graph differences steps : List ℕ) (n m : ℕ) → Bool → Type 0
@@ -47,7 +48,6 @@ pub record HeldZero (steps held : List ℕ) (n : ℕ) : Type 0 where
 pub record More (held more : List ℕ) : Type 0 where
   pub wide : length more ≡ length held
   pub still : (v : ℕ) → heldIn held v ≡ true → heldIn more v ≡ true
-  pub fewer : zeros more ≤ zeros held
 
 -- operand j of v is marked and holds v
 pub record Near (graph steps held : List ℕ) (v j : ℕ) : Type 0 where
@@ -59,49 +59,43 @@ abbrev pub ByOperand : (graph steps held : List ℕ) (v : ℕ) → Bool → Type
 ByOperand graph steps held v r =
     Ends r ((j : ℕ) × (j < countIn graph v) × Near graph steps held v j) ((j : ℕ) → j < countIn graph v → Near graph steps held v j → ⊥)
 
--- v is marked where a marked operand holds it, and nothing else changes
-pub record NodeHeld (graph steps held more : List ℕ) (v : ℕ) : Type 0 where
-  pub some : Bool
-  pub by : ByOperand graph steps held v some
-  pub marks : Ends some (more ≡ set held v 1) (more ≡ held)
-
--- what an operand of v holds is marked
-abbrev pub HeldOperands : (graph steps held : List ℕ) → ℕ → Type 0
-HeldOperands graph steps held v = (j : ℕ) → j < countIn graph v → Near graph steps held v j → heldIn held v ≡ true
-
--- of n nodes the first v have had their turn: what an operand of theirs holds is marked, and only what is held is marked since
-pub record NodesHeld (graph steps held more : List ℕ) (n v : ℕ) : Type 0 where
-  pub grown : More held more
-  pub operands : (u : ℕ) → u < v → HeldOperands graph steps more u
-  pub only : (differences : List ℕ) (m : ℕ) → OnlyHeld graph differences steps held n m → OnlyHeld graph differences steps more n m
-
--- what difference i holds is marked
-abbrev pub HeldDifference : (differences steps held : List ℕ) → ℕ → Type 0
-HeldDifference differences steps held i =
-    heldIn held (fromIn differences i) ≡ true → Tight differences steps i → heldIn held (toIn differences i) ≡ true
-
--- difference i holds its target, which is not marked
-pub record Fresh (differences steps held : List ℕ) (i : ℕ) : Type 0 where
+-- difference i has a marked source and no spare step
+pub record Ties (differences steps held : List ℕ) (i : ℕ) : Type 0 where
   pub holds : heldIn held (fromIn differences i) ≡ true
   pub tight : Tight differences steps i
-  pub fresh : heldIn held (toIn differences i) ≡ false
 
--- the target of difference i is marked anew, or nothing changes since what the difference holds is marked
-abbrev pub TargetHeld : (differences steps held more : List ℕ) (i : ℕ) → Bool → Type 0
-TargetHeld differences steps held more i r =
-    Ends r (Fresh differences steps held i × (more ≡ set held (toIn differences i) 1)) (HeldDifference differences steps held i × (more ≡ held))
+-- difference i, one of m, has a marked source and leaves its target v no spare step
+pub record Tied (differences steps held : List ℕ) (m v i : ℕ) : Type 0 where
+  pub within : i < m
+  pub into : toIn differences i ≡ v
+  pub ties : Ties differences steps held i
+
+-- a difference from a marked node holds v, or none does
+abbrev pub ByDifference : (differences steps held : List ℕ) (m v : ℕ) → Bool → Type 0
+ByDifference differences steps held m v r = Ends r ((i : ℕ) × Tied differences steps held m v i) ((i : ℕ) → Tied differences steps held m v i → ⊥)
+
+-- a marked operand or a difference from a marked node holds v
+abbrev pub Holdable : (graph differences steps held : List ℕ) (m v : ℕ) → Type 0
+Holdable graph differences steps held m v =
+    ((j : ℕ) × (j < countIn graph v) × Near graph steps held v j) ⊎ ((i : ℕ) × Tied differences steps held m v i)
+
+-- v is marked anew, or nothing changes since v is marked or nothing holds it
+abbrev pub NodeHeld : (graph differences steps held more : List ℕ) (m v : ℕ) → Bool → Type 0
+NodeHeld graph differences steps held more m v r =
+    Ends r ((heldIn held v ≡ false) × Holdable graph differences steps held m v × (more ≡ set held v 1))
+    ((Holdable graph differences steps held m v → heldIn held v ≡ true) × (more ≡ held))
 
 -- something new is marked, or the marks are as they were
 abbrev pub Marked : (held more : List ℕ) → Bool → Type 0
 Marked held more true = More held more × (zeros more < zeros held)
 Marked held more false = more ≡ held
 
--- of m differences the first i have had their turn: r tells whether something is marked since; only what is held is; and where nothing is,
--- these differences hold nothing more
-pub record Swept (differences steps held more : List ℕ) (m i : ℕ) (r : Bool) : Type 0 where
+-- of n nodes those from low up to high have had their turn: r tells whether something is marked since; only what is held is; and where nothing
+-- is, nothing more of these nodes can be held
+pub record Swept (graph differences steps held more : List ℕ) (n m low high : ℕ) (r : Bool) : Type 0 where
   pub marked : Marked held more r
-  pub closed : r ≡ false → (k : ℕ) → k < i → HeldDifference differences steps more k
-  pub only : (graph : List ℕ) (n : ℕ) → OnlyHeld graph differences steps held n m → OnlyHeld graph differences steps more n m
+  pub closed : r ≡ false → (v : ℕ) → low ≤ v → v < high → Holdable graph differences steps more m v → heldIn more v ≡ true
+  pub only : OnlyHeld graph differences steps held n m → OnlyHeld graph differences steps more n m
 
 -- each of n nodes is marked, or one is not
 abbrev pub AllMarked : (held : List ℕ) (n : ℕ) → Bool → Type 0

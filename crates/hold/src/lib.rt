@@ -1,12 +1,14 @@
 // The floating-set test, after a pass: nodes that nothing holds in their step can rise together for ever, so nothing is ever legal.
 // Held are the nodes of step 0, and each node with a held operand less than two steps before it or a held difference without spare steps.
+// The marks are found by sweeps over the nodes, ids rising and falling in turn, until one finds nothing more.
 ghost use mathlib.Core.Path.{_≡_};
 ghost use Prim.Native.Nat.{ℕ, _<_, _≤_};
 ghost use lib.ListN.{length};
+ghost use Rattle.rows.specs.Cells.{Ends};
 ghost use Rattle.rows.specs.Table.{Falling};
-ghost use Rattle.bound.specs.Lookup.{Soon};
+ghost use Rattle.bound.specs.Lookup.{Soon, Linked};
 ghost use Rattle.bound.specs.Bound.{Summed};
-ghost use Rattle.hold.specs.Mark.{HeldZero, ByOperand, NodeHeld, NodesHeld, TargetHeld, Swept, AllMarked, Floats};
+ghost use Rattle.hold.specs.Mark.{HeldZero, ByOperand, Ties, ByDifference, Holdable, NodeHeld, Swept, AllMarked, Floats};
 use bound::Steps;
 use bound::ready_step;
 use bound::step_of;
@@ -55,75 +57,161 @@ pub fn held_by_operand(graph: &Graph, steps: &Steps, held: &[u8; 256], v: u32) -
     false
 }
 
-// Holds v where an operand does.
-pub fn hold_node(graph: &Graph, steps: &Steps, held: &mut [u8; 256], v: u32)
-    requires { ⌜ v < 256 ⌝ }
-    requires { ⌜ Falling (now graph) ⌝ }
-    requires { ⌜ ((u : ℕ) → u < v → Soon (now graph) (now steps) u) ⌝ }
-    requires { ⌜ length (now held) ≡ 256 ⌝ }
-    ensures { λ _. ⌜ NodeHeld (now (graph .entry)) (now (steps .entry)) (now (held .entry)) (now (held .exit)) v ⌝ }
-{
-    if held_by_operand(graph, steps, held, v) {
-        held[v as usize] = 1;
-    }
-}
-
-// Holds every node that an operand holds, in id order.
-pub fn hold_nodes(graph: &Graph, steps: &Steps, held: &mut [u8; 256], n: u32)
-    requires { ⌜ n ≤ 256 ⌝ }
-    requires { ⌜ Falling (now graph) ⌝ }
-    requires { ⌜ ((u : ℕ) → u < n → Soon (now graph) (now steps) u) ⌝ }
-    requires { ⌜ length (now held) ≡ 256 ⌝ }
-    ensures { λ _. ⌜ NodesHeld (now (graph .entry)) (now (steps .entry)) (now (held .entry)) (now (held .exit)) n n ⌝ }
-{
-    let mut v: u32 = 0;
-    while v < n {
-        hold_node(graph, steps, held, v);
-        v += 1;
-    }
-}
-
-// Holds the target of difference i where the difference does; whether it was not held before.
-pub fn hold_target(differences: &Differences, steps: &Steps, held: &mut [u8; 256], i: u32) -> bool
+// Whether difference i has a held source and no spare step.
+pub fn ties(differences: &Differences, steps: &Steps, held: &[u8; 256], i: u32) -> bool
     requires { ⌜ i < 1024 ⌝ }
     requires { ⌜ Summed (now differences) (now steps) i ⌝ }
-    requires { ⌜ length (now held) ≡ 256 ⌝ }
-    ensures { λ r. ⌜ TargetHeld (now (differences .entry)) (now (steps .entry)) (now (held .entry)) (now (held .exit)) i r ⌝ }
+    ensures { λ r. ⌜ Ends r (Ties (now (differences .entry)) (now (steps .entry)) (now (held .entry)) i) (Ties (now (differences .entry)) (now (steps .entry)) (now (held .entry)) i → ⊥) ⌝ }
 {
     let d = difference_in(differences, i);
     let u = d.from;
-    let v = d.to;
     if held[u as usize] == 0 {
         return false;
     }
-    if held[v as usize] != 0 {
-        return false;
-    }
     let from = step_of(steps, u);
-    let to = step_of(steps, v);
+    let to = step_of(steps, d.to);
     let ahead = from.0 + d.plus;
     let behind = to.0 + d.minus;
     if ahead < behind {
+        return false;
+    }
+    true
+}
+
+// Whether a difference into v from a held node leaves v no spare step.
+pub fn held_by_difference(
+    differences: &Differences,
+    first: &[u32; 256],
+    next: &[u32; 1024],
+    steps: &Steps,
+    held: &[u8; 256],
+    m: u32,
+    v: u32,
+) -> bool
+    requires { ⌜ (v < 256) × (m ≤ 1024) ⌝ }
+    requires { ⌜ Linked (now differences) m (now first) (now next) ⌝ }
+    requires { ⌜ ((i : ℕ) → i < m → Summed (now differences) (now steps) i) ⌝ }
+    ensures { λ r. ⌜ ByDifference (now (differences .entry)) (now (steps .entry)) (now (held .entry)) m v r ⌝ }
+{
+    let mut e = first[v as usize];
+    while e > 0 {
+        if ties(differences, steps, held, e - 1) {
+            return true;
+        }
+        e = next[e as usize - 1];
+    }
+    false
+}
+
+// Whether a held operand or a held difference holds v.
+pub fn holdable(
+    graph: &Graph,
+    differences: &Differences,
+    first: &[u32; 256],
+    next: &[u32; 1024],
+    steps: &Steps,
+    held: &[u8; 256],
+    m: u32,
+    v: u32,
+) -> bool
+    requires { ⌜ (v < 256) × (m ≤ 1024) ⌝ }
+    requires { ⌜ Falling (now graph) ⌝ }
+    requires { ⌜ ((u : ℕ) → u < v → Soon (now graph) (now steps) u) ⌝ }
+    requires { ⌜ Linked (now differences) m (now first) (now next) ⌝ }
+    requires { ⌜ ((i : ℕ) → i < m → Summed (now differences) (now steps) i) ⌝ }
+    ensures { λ r. ⌜ Ends r (Holdable (now (graph .entry)) (now (differences .entry)) (now (steps .entry)) (now (held .entry)) m v) (Holdable (now (graph .entry)) (now (differences .entry)) (now (steps .entry)) (now (held .entry)) m v → ⊥) ⌝ }
+{
+    if held_by_operand(graph, steps, held, v) {
+        return true;
+    }
+    held_by_difference(differences, first, next, steps, held, m, v)
+}
+
+// Holds v where something does; whether it was not held before.
+pub fn hold_node(
+    graph: &Graph,
+    differences: &Differences,
+    first: &[u32; 256],
+    next: &[u32; 1024],
+    steps: &Steps,
+    held: &mut [u8; 256],
+    m: u32,
+    v: u32,
+) -> bool
+    requires { ⌜ (v < 256) × (m ≤ 1024) ⌝ }
+    requires { ⌜ Falling (now graph) ⌝ }
+    requires { ⌜ ((u : ℕ) → u < v → Soon (now graph) (now steps) u) ⌝ }
+    requires { ⌜ Linked (now differences) m (now first) (now next) ⌝ }
+    requires { ⌜ ((i : ℕ) → i < m → Summed (now differences) (now steps) i) ⌝ }
+    requires { ⌜ length (now held) ≡ 256 ⌝ }
+    ensures { λ r. ⌜ NodeHeld (now (graph .entry)) (now (differences .entry)) (now (steps .entry)) (now (held .entry)) (now (held .exit)) m v r ⌝ }
+{
+    if held[v as usize] != 0 {
+        return false;
+    }
+    if !holdable(graph, differences, first, next, steps, held, m, v) {
         return false;
     }
     held[v as usize] = 1;
     true
 }
 
-// Holds the targets that differences hold; whether one was not held before.
-pub fn hold_targets(differences: &Differences, steps: &Steps, held: &mut [u8; 256], m: u32) -> bool
-    requires { ⌜ m ≤ 1024 ⌝ }
+// Holds what can be held, in id order; whether something was not held before.
+pub fn hold_up(
+    graph: &Graph,
+    differences: &Differences,
+    first: &[u32; 256],
+    next: &[u32; 1024],
+    steps: &Steps,
+    held: &mut [u8; 256],
+    n: u32,
+    m: u32,
+) -> bool
+    requires { ⌜ (n ≤ 256) × (m ≤ 1024) ⌝ }
+    requires { ⌜ Falling (now graph) ⌝ }
+    requires { ⌜ ((u : ℕ) → u < n → Soon (now graph) (now steps) u) ⌝ }
+    requires { ⌜ Linked (now differences) m (now first) (now next) ⌝ }
     requires { ⌜ ((i : ℕ) → i < m → Summed (now differences) (now steps) i) ⌝ }
     requires { ⌜ length (now held) ≡ 256 ⌝ }
-    ensures { λ r. ⌜ Swept (now (differences .entry)) (now (steps .entry)) (now (held .entry)) (now (held .exit)) m m r ⌝ }
+    ensures { λ r. ⌜ Swept (now (graph .entry)) (now (differences .entry)) (now (steps .entry)) (now (held .entry)) (now (held .exit)) n m 0 n r ⌝ }
 {
-    let mut i: u32 = 0;
+    let mut v: u32 = 0;
     let mut grew = false;
-    while i < m {
-        if hold_target(differences, steps, held, i) {
+    while v < n {
+        if hold_node(graph, differences, first, next, steps, held, m, v) {
             grew = true;
         }
-        i += 1;
+        v += 1;
+    }
+    grew
+}
+
+// The same, ids falling.
+pub fn hold_down(
+    graph: &Graph,
+    differences: &Differences,
+    first: &[u32; 256],
+    next: &[u32; 1024],
+    steps: &Steps,
+    held: &mut [u8; 256],
+    n: u32,
+    m: u32,
+) -> bool
+    requires { ⌜ (n ≤ 256) × (m ≤ 1024) ⌝ }
+    requires { ⌜ Falling (now graph) ⌝ }
+    requires { ⌜ ((u : ℕ) → u < n → Soon (now graph) (now steps) u) ⌝ }
+    requires { ⌜ Linked (now differences) m (now first) (now next) ⌝ }
+    requires { ⌜ ((i : ℕ) → i < m → Summed (now differences) (now steps) i) ⌝ }
+    requires { ⌜ length (now held) ≡ 256 ⌝ }
+    ensures { λ r. ⌜ Swept (now (graph .entry)) (now (differences .entry)) (now (steps .entry)) (now (held .entry)) (now (held .exit)) n m 0 n r ⌝ }
+{
+    let mut v: u32 = n;
+    let mut grew = false;
+    while v > 0 {
+        v -= 1;
+        if hold_node(graph, differences, first, next, steps, held, m, v) {
+            grew = true;
+        }
     }
     grew
 }
@@ -144,18 +232,28 @@ pub fn all_held(held: &[u8; 256], n: u32) -> bool
 }
 
 // Whether some of the n nodes float.
-pub fn floats(graph: &Graph, differences: &Differences, steps: &Steps, n: u32, m: u32) -> bool
+pub fn floats(
+    graph: &Graph,
+    differences: &Differences,
+    first: &[u32; 256],
+    next: &[u32; 1024],
+    steps: &Steps,
+    n: u32,
+    m: u32,
+) -> bool
     requires { ⌜ (n ≤ 256) × (m ≤ 1024) ⌝ }
     requires { ⌜ Falling (now graph) ⌝ }
     requires { ⌜ ((u : ℕ) → u < n → Soon (now graph) (now steps) u) ⌝ }
+    requires { ⌜ Linked (now differences) m (now first) (now next) ⌝ }
     requires { ⌜ ((i : ℕ) → i < m → Summed (now differences) (now steps) i) ⌝ }
     ensures { λ r. ⌜ Floats (now (graph .entry)) (now (differences .entry)) (now (steps .entry)) n m r ⌝ }
 {
     let mut held = [0u8; 256];
     hold_step_0(steps, &mut held, n);
-    hold_nodes(graph, steps, &mut held, n);
-    while hold_targets(differences, steps, &mut held, m) {
-        hold_nodes(graph, steps, &mut held, n);
+    while hold_up(graph, differences, first, next, steps, &mut held, n, m) {
+        if !hold_down(graph, differences, first, next, steps, &mut held, n, m) {
+            break;
+        }
     }
     !all_held(&held, n)
 }

@@ -1,4 +1,2 @@
 pub mod Exact
 pub mod Rounds
-pub mod Turns
-pub mod TurnNode

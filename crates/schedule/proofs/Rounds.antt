@@ -1,4 +1,4 @@
--- The rounds of passes: how they begin, what each end of a round says, and that a round that is not the last raises the labels.
+-- The rounds of passes: how they begin, what each end of a round says, and that a round that is not the last moves a step.
 use Prim.Native.Nat.{ℕ, zero, suc, _+_, _-_, _*_, _≤_, _<_, max}
 use mathlib.Core.Path.{_≡_, refl, sym, subst, ap, _∙_}
 use mathlib.Core.Bool.{Bool, true, false}
@@ -15,34 +15,39 @@ use borrow.Author.Tests.{leb-true, leb-false}
 use Rattle.maps.specs.Limits.{weightMost}
 use Rattle.maps.specs.Label.{Label, label, _≼_}
 use Rattle.maps.specs.Lists.{All, below}
+use Rattle.maps.specs.WellFormed.{WellDifference}
 use Rattle.maps.specs.Sheet.{Sheet, Difference, node, size, latency}
 use Rattle.maps.specs.Cut.{reads}
 use Rattle.maps.specs.Legal.{readyOf, Least, latencyOfAll, NoneLegal}
 use Rattle.maps.specs.Least.{at, leastLabels, late, least}
 use Rattle.maps.specs.Outcome.{cutless}
-use Rattle.maps.proofs.Over.{total, length-over, getD-over}
+use Rattle.maps.proofs.Over.{total, total-mono, length-over, getD-over}
 use Rattle.maps.proofs.Member.{zeros-at, All-at, All-of, All-ids, All-get, mem-in, mem-out, index-mem, below-out}
-use Rattle.maps.proofs.Fix.{key, label-path, is-least, is-late}
+use Rattle.maps.proofs.Fix.{label-path, is-least, is-late}
 use Rattle.maps.proofs.Planned.{delays, operands-below, least-right}
-use Rattle.rows.specs.Table.{delayIn, latencyIn, operandIn, fromIn, noDifference, differenceAt, Tabled}
+use Rattle.rows.specs.Table.{delayIn, latencyIn, operandIn, fromIn, toIn, plusIn, minusIn, noDifference, differenceAt, Tabled}
 use Rattle.rows.specs.declared.Header as R
 use Rattle.rows.specs.Cells.{Ends}
 use Rattle.rows.proofs.Cells.{filled-more}
 use Rattle.relax.specs.Guard.{Kept}
 use Rattle.relax.specs.Settle.{Pass, Passing}
+use Rattle.relax.specs.Sweep.{Sweeping}
 use Rattle.relax.specs.Hold.{Held, at-zero, by-operand, by-difference}
 use Rattle.relax.proofs.Closed.{Closed, well-closed, inside, ready-step}
 use Rattle.relax.proofs.Guard.{legal-node, legal-diffs, ok-legal}
 use Rattle.relax.proofs.Forced.{ok-same}
 use Rattle.relax.proofs.Held.{well-climb, held-bound}
-use Rattle.relax.proofs.Passes.{pass-start, pass-again, pass-least, pass-floats, Moved, height, height-grows, height-bound}
-use Rattle.relax.proofs.Loop.{passing-pass, passing-grows, passing-heeds}
-use Rattle.bound.specs.Lookup.{labelIn, labelsIn, Linked}
+use Rattle.relax.proofs.Passes.{pass-start, pass-again, pass-least, pass-floats, stepsOf, steps-bound}
+use Rattle.relax.proofs.Loop.{passing-grows}
+use Rattle.relax.proofs.Sweeps.{sweep-moves}
+use Rattle.bound.specs.Lookup.{labelIn, labelsIn, Linked, Heeded}
 use Rattle.bound.specs.Bound.{HoldsAt}
-use Rattle.bound.specs.Going.{Given, AllKept, Going}
-use Rattle.bound.proofs.Safety.{node-in, latency-is, delay-is, graph-falls, difference-in, kept-at, holds-at}
+use Rattle.bound.specs.Going.{Given, AllKept, Timed, Going}
+use Rattle.bound.proofs.Asking.{linked-heeding, linked-heeded}
+use Rattle.bound.proofs.Safety.{node-in, latency-is, delay-is, graph-falls, difference-in, targets, kept-at, holds-at}
 use Rattle.hold.specs.Mark.{HeldIn, zero-in, operand-in, target-in}
-use Rattle.schedule.specs.Round.{First, Relaxed, heightIn, heightMost, heldMost, roundsMost}
+use Rattle.sweep.specs.Sweep.{AllHold, SomeFails, Ready, Swept}
+use Rattle.schedule.specs.Round.{First, GoesOn, Heeds, Relaxed, stepsIn, stepsMost, heldMost, roundsMost}
 
 -- the first labels, one node after the other: none yet, and one more
 pub first-none : {graph steps levels : List ℕ} {horizon : ℕ} → steps ≡ replicate 256 0 → levels ≡ replicate 256 0 → First graph steps levels 0 horizon
@@ -71,37 +76,32 @@ first-more {graph} {steps} {levels} v s d low g ends z delay e f =
     still u (yes q) = ap (λ (i : ℕ). getD (set steps v s) i 0) q ∙ getD-set-same steps v s 0 (omega (arith, g .steps-wide)) ∙ z
     still u (no n) = getD-set-other steps v u s 0 n ∙ g .steps-zero u
 
--- how far the labels have risen, as a sum
-height-sum : (n top : ℕ) (steps levels : List ℕ) → heightIn n top steps levels ≡ total (λ v. key (top + 1) (labelIn steps levels v)) n
-unfolding heightIn
-height-sum zero top steps levels = refl
-height-sum (suc n) top steps levels =
-    ap (λ (h : ℕ). h + (getD steps n 0 * (top + 1) + getD levels n 0)) (height-sum n top steps levels)
+-- the sum of the steps, as a sum
+steps-sum : (n : ℕ) (steps : List ℕ) → stepsIn n steps ≡ total (λ v. getD steps v 0) n
+unfolding stepsIn
+steps-sum zero steps = refl
+steps-sum (suc n) steps = ap (λ (h : ℕ). h + getD steps n 0) (steps-sum n steps)
 
 module _ {S : Sheet} {graph differences : List ℕ} {limits : R.Header} (g : Given S graph differences limits) where
   closed : Closed S
   closed = well-closed S (g .well)
 
-  height-is : (steps levels : List ℕ) → heightIn (limits .nodes) (limits .top) steps levels ≡ height S (labelIn steps levels)
-  height-is steps levels =
-      ap (λ (n : ℕ). heightIn n (limits .top) steps levels) (g .nodes) ∙ ap (λ (t : ℕ). heightIn (size S) t steps levels) (g .top)
-      ∙ height-sum (size S) (S .top) steps levels
+  steps-is : (steps levels : List ℕ) → stepsIn (limits .nodes) steps ≡ stepsOf S (labelIn steps levels)
+  steps-is steps levels = ap (λ (n : ℕ). stepsIn n steps) (g .nodes) ∙ steps-sum (size S) steps
 
-  most-is : heightMost limits ≡ size S * ((S .horizon + 1) * (S .top + 1))
-  unfolding heightMost
-  most-is = rw (g .nodes, g .horizon, g .top)
+  most-is : stepsMost limits ≡ size S * S .horizon
+  unfolding stepsMost
+  most-is = rw (g .nodes, g .horizon)
 
   -- which is a number of the code's, twice over
-  pub most-fits : heightMost limits < 2147483648
+  most-fits : stepsMost limits < 2147483647
   most-fits =
-      let x : (S .horizon + 1) * (S .top + 1) ≤ 4096 * (S .top + 1) = mul-le-mul-right (S .top + 1) (omega (arith, g .well .horizon .most)) in
-      let y : size S * ((S .horizon + 1) * (S .top + 1)) ≤ 256 * ((S .horizon + 1) * (S .top + 1)) =
-      mul-le-mul-right ((S .horizon + 1) * (S .top + 1)) (g .well .size .most) in
-      omega (arith, most-is, g .well .top .most)
+      let y : size S * S .horizon ≤ 256 * S .horizon = mul-le-mul-right (S .horizon) (g .well .size .most) in
+      omega (arith, most-is, g .well .horizon .most)
 
-  held-is : heldMost limits ≡ size S * (((size S - 1) * weightMost + 1) * (S .top + 1))
+  held-is : heldMost limits ≡ size S * ((size S - 1) * weightMost)
   unfolding heldMost
-  held-is = rw (g .nodes, g .top)
+  held-is = rw (g .nodes)
 
   -- the start
   pub first-going : {first next kept steps levels : List ℕ} → Linked differences (limits .differences) first next → AllKept S kept
@@ -109,7 +109,7 @@ module _ {S : Sheet} {graph differences : List ℕ} {limits : R.Header} (g : Giv
   first-going linked kept f =
       record {
         given = g;
-        linked = linked;
+        heeding = linked-heeding differences linked;
         allKept = kept;
         timed = record {
           steps-wide = f .steps-wide;
@@ -143,7 +143,7 @@ module _ {S : Sheet} {graph differences : List ℕ} {limits : R.Header} (g : Giv
         by-operand v (operandIn graph v j) (w .0)
         (subst (λ (u : ℕ). reads S v u ≡ true) (sym e) (mem-in (node S v .operands) (index-mem 0 (node S v .operands) j k)))
         (held-in (operandIn graph v j) o) (omega (arith, latency-is g (operandIn graph v j) (omega arith)))
-    held-in v (target-in i l o c) =
+    held-in v (target-in i l b o c) =
         let k : i < length (S .differences) = omega (arith, g .count) in
         let from = g .listed .froms i k in
         let to = g .listed .tos i k in
@@ -169,10 +169,11 @@ module _ {S : Sheet} {graph differences : List ℕ} {limits : R.Header} (g : Giv
 
     target : (i : ℕ) → i < length (S .differences) → Pushes (differenceAt S i)
     target i l p near =
+        let w = All-get (WellDifference (size S)) noDifference (S .differences) (g .well .differences) i l in
         let from = g .listed .froms i l in
         let to = g .listed .tos i l in
         subst HeldAt to
-        (target-in i (omega (arith, g .count)) (subst HeldAt (sym from) p)
+        (target-in i (omega (arith, g .count)) (omega (arith, w .to, g .nodes)) (subst HeldAt (sym from) p)
         (omega (arith, ap (λ (x : ℕ). getD steps x 0) from, ap (λ (x : ℕ). getD steps x 0) to, g .listed .pluses i l, g .listed .minuses i l)))
 
     pub in-held : (v : ℕ) → Held S (labelIn steps levels) v → HeldAt v
@@ -183,84 +184,134 @@ module _ {S : Sheet} {graph differences : List ℕ} {limits : R.Header} (g : Giv
     in-held v (by-difference d m k near) =
         All-at Pushes (S .differences) (All-ids Pushes noDifference (S .differences) (λ i l. target i l)) m (in-held (d .from) k) near
 
--- after a pass that settled every node
-module _ {S : Sheet} {graph differences : List ℕ} {limits : R.Header} {first next kept steps levels : List ℕ}
-    (going : Going S graph differences limits first next kept steps levels) (steps₀ levels₀ : List ℕ) (p : Pass S (labelIn steps₀ levels₀) 0)
-    (q : Passing S (labelIn steps₀ levels₀) (size S) (labelIn steps levels)) where
-  g : Given S graph differences limits
-  g = going .given
+  -- where the tests and the bounds of a round lead
+  module _ (steps levels : List ℕ) where
+    -- after a pass a node floats
+    floats-none : Pass S (labelIn steps levels) (size S) → (v : ℕ) → v < limits .nodes → (HeldAt steps levels v → ⊥) → NoneLegal S
+    floats-none p v l n M legal =
+        pass-floats S closed (labelIn steps levels) p v (node-in g v l .0) (λ h. n (in-held steps levels v h)) M (S .horizon) legal
 
-  ended : Pass S (labelIn steps levels) (size S)
-  ended = passing-pass S (closed g) (labelIn steps₀ levels₀) p (size S) (labelIn steps levels) q
+    -- none does: the steps are no further than held nodes can be, whatever the horizon
+    held-most : ((v : ℕ) → v < limits .nodes → HeldAt steps levels v) → stepsIn (limits .nodes) steps ≤ heldMost limits
+    held-most all =
+        let b = steps-bound S (labelIn steps levels) ((size S - 1) * weightMost)
+        (held-bound S closed (labelIn steps levels) weightMost (well-climb S (g .well)) (λ v l. held-in steps levels v (all v (omega (arith, g .nodes))))) in
+        omega (arith, steps-is steps levels, held-is)
 
-  -- every difference holds
-  pub round-least : ((i : ℕ) → i < limits .differences → HoldsAt differences steps i) → Least S (S .horizon) (labelIn steps levels)
-  round-least h =
-      pass-least S (closed g) (labelIn steps levels) ended (S .horizon)
-      (λ v l. record { into = λ d m e. All-at (Kept (λ u. getD steps u 0)) (S .differences) all m }) (going .timed .ends)
-    where
-      all : All (Kept (λ u. getD steps u 0)) (S .differences)
-      all =
-          All-ids (Kept (λ u. getD steps u 0)) noDifference (S .differences) (λ i l.
-          let k : i < limits .differences = omega (arith, g .count) in kept-at g steps i k (h i k))
+    timed-most : Timed S steps levels → stepsIn (limits .nodes) steps ≤ stepsMost limits
+    timed-most timed =
+        let b = steps-bound S (labelIn steps levels) (S .horizon) (λ v l. omega (arith, timed .ends v l)) in
+        omega (arith, steps-is steps levels, most-is)
 
-  -- a node floats
+    -- a pass lets no step fall
+    pub pass-most : (steps₀ levels₀ : List ℕ) → Pass S (labelIn steps₀ levels₀) 0 → Passing S (labelIn steps₀ levels₀) (size S) (labelIn steps levels)
+        → stepsIn (limits .nodes) steps₀ ≤ stepsIn (limits .nodes) steps
+    pass-most steps₀ levels₀ p q =
+        let b = total-mono (λ v. getD steps₀ v 0) (λ v. getD steps v 0) (size S)
+        (λ v l. passing-grows S closed (labelIn steps₀ levels₀) p (size S) (labelIn steps levels) q v l .steps) in
+        omega (arith, steps-is steps₀ levels₀, steps-is steps levels)
+
+    -- after a pass every difference holds
+    pub all-least : {first next : List ℕ} → Linked differences (limits .differences) first next → Timed S steps levels → Pass S (labelIn steps levels) (size S)
+        → AllHold differences first steps (limits .differences) → Least S (S .horizon) (labelIn steps levels)
+    all-least {first} linked timed p h =
+        pass-least S closed (labelIn steps levels) p (S .horizon)
+        (λ v l. record { into = λ d m e. All-at (Kept (λ u. getD steps u 0)) (S .differences) all m }) (timed .ends)
+      where
+        each : (i : ℕ) → i < limits .differences → HoldsAt differences steps i
+        each i l = go (leb (getD steps (fromIn differences i) 0 + plusIn differences i) (getD steps (toIn differences i) 0 + minusIn differences i)) refl
+          where
+            go : (t : Bool) → leb (getD steps (fromIn differences i) 0 + plusIn differences i) (getD steps (toIn differences i) 0 + minusIn differences i) ≡ t
+                → HoldsAt differences steps i
+            go true e = leb-true _ _ e
+            go false e =
+                absurd (h i l (record { heeded = linked-heeded differences linked i l (targets g i l); fails = λ k. omega (arith, leb-false (getD steps (fromIn differences i) 0 + plusIn differences i) (getD steps (toIn differences i) 0 + minusIn differences i) e) }))
+
+        all : All (Kept (λ u. getD steps u 0)) (S .differences)
+        all =
+            All-ids (Kept (λ u. getD steps u 0)) noDifference (S .differences) (λ i l.
+            let k : i < limits .differences = omega (arith, g .count) in kept-at g steps i k (each i k))
+
+    -- a sweep where a heeded difference fails moves a step
+    sweep-most : (steps′ levels′ heeded : List ℕ) → Sweeping S (Heeded heeded) (labelIn steps levels) 0 (labelIn steps′ levels′)
+        → SomeFails differences heeded steps (limits .differences) → stepsIn (limits .nodes) steps < stepsIn (limits .nodes) steps′
+    sweep-most steps′ levels′ heeded w f =
+        let i = f .0 in
+        let to = g .listed .tos i (omega (arith, f .1, g .count)) in
+        omega (
+          arith,
+          steps-is steps levels,
+          steps-is steps′ levels′,
+          sweep-moves S closed (Heeded heeded) (labelIn steps levels) (labelIn steps′ levels′) w (differenceAt S i) (difference-in g i (f .1))
+              (subst (Heeded heeded) to (f .2 .heeded)) (unkept (leb (getD steps (d i .from) 0 + d i .plus) (getD steps (d i .to) 0 + d i .minus)) refl),
+        )
+      where
+        d : ℕ → Difference
+        d = differenceAt S
+
+        unkept : (t : Bool) → leb (getD steps (d (f .0) .from) 0 + d (f .0) .plus) (getD steps (d (f .0) .to) 0 + d (f .0) .minus) ≡ t
+            → getD steps (d (f .0) .to) 0 + d (f .0) .minus < getD steps (d (f .0) .from) 0 + d (f .0) .plus
+        unkept true e = absurd (f .2 .fails (holds-at g steps (f .0) (f .1) (leb-true _ _ e)))
+        unkept false e = leb-false _ _ e
+
+-- What ends the rounds: every round but the last moves a step, in the sweep after it, and steps are bounded. So the rounds so far are no more than
+-- the sum of the steps; and at the last test, when every node was held, that sum was no more than held nodes can have. The next test comes after
+-- twice as many rounds. So twice that sum, and two, are the most rounds, whatever the horizon.
+pub record Few (limits : R.Header) (steps rounds next : ℕ) : Type 0 where
+  pub risen : rounds ≤ steps
+  pub early : rounds < next
+  pub near : next ≤ roundsMost limits
+  pub fits : next < 4294967296
+
+-- how many rounds there can still be falls
+pub few-left : (limits : R.Header) (steps rounds next : ℕ) → Few limits steps rounds next
+    → roundsMost limits - (rounds + 1) < roundsMost limits - rounds
+few-left limits steps rounds next few = omega (arith, few .early, few .near)
+
+pub few-none : (limits : R.Header) (steps : ℕ) → Few limits steps 0 2
+few-none limits steps = record { risen = omega arith; early = omega arith; near = omega arith; fits = omega arith }
+
+-- one round more: h is the sum of the steps before its pass, p after it, k after the sweep
+module _ (limits : R.Header) (h p k rounds next : ℕ) (few : Few limits h rounds next) (pass : h ≤ p) (moved : p < k) where
+  -- a round without the test, and one with it
+  few-more : (rounds + 1 ≡ next → ⊥) → Few limits k (rounds + 1) next
+  few-more n = record { risen = omega (arith, few .risen); early = omega (arith, few .early, n); near = few .near; fits = few .fits }
+
+  few-tested : rounds + 1 ≡ next → p ≤ heldMost limits → p < 2147483647 → Few limits k (rounds + 1) (next * 2)
+  few-tested e b s =
+      record { risen = omega (arith, few .risen); early = omega arith; near = omega (arith, few .risen); fits = omega (arith, few .risen) }
+
+-- A round that goes on: the labels after its pass, then the differences that are heeded, then the sweep.
+module _ {S : Sheet} {graph differences : List ℕ} {limits : R.Header} {first heeded₀ next kept steps₀ steps levels : List ℕ}
+    (x : GoesOn S graph differences limits first heeded₀ next kept steps₀ steps levels) where
   pub round-floats : (v : ℕ) → v < limits .nodes → (HeldIn graph differences steps (limits .nodes) (limits .differences) v → ⊥) → NoneLegal S
-  round-floats v l n M legal =
-      pass-floats S (closed g) (labelIn steps levels) ended v (node-in g v l .0) (λ h. n (in-held g steps levels v h)) M (S .horizon) legal
+  round-floats = floats-none (x .going .given) steps levels (x .settled)
 
-  -- none does: the labels have risen no further than held nodes can, whatever the horizon
-  pub round-held : ((v : ℕ) → v < limits .nodes → HeldIn graph differences steps (limits .nodes) (limits .differences) v)
-      → heightIn (limits .nodes) (limits .top) steps levels ≤ heldMost limits
-  round-held all =
-      let b = height-bound S (labelIn steps levels) ((size S - 1) * weightMost) (ended .high)
-      (held-bound S (closed g) (labelIn steps levels) weightMost (well-climb S (g .well)) (λ v l. held-in g steps levels v (all v (omega (arith, g .nodes))))) in
-      omega (arith, height-is g steps levels, held-is g)
+  module _ {heeded : List ℕ} {test : Bool} (y : Heeds graph differences limits next steps heeded test) where
+    pub round-ready : Ready S graph differences limits heeded next steps levels
+    round-ready =
+        record {
+          given = x .going .given;
+          heeding = y .heeding;
+          timed = x .going .timed;
+          pass = pass-again S (labelIn steps levels) (size S) (x .settled);
+        }
 
-  -- a difference does not hold: its source has risen
-  pub round-again : (i : ℕ) → i < limits .differences → (HoldsAt differences steps i → ⊥)
-      → (test : Bool) → (test ≡ true → heightIn (limits .nodes) (limits .top) steps levels ≤ heldMost limits)
-      → Going S graph differences limits first next kept steps levels
-      × Pass S (labelIn steps levels) 0
-      × (heightIn (limits .nodes) (limits .top) steps₀ levels₀ < heightIn (limits .nodes) (limits .top) steps levels)
-      × (heightIn (limits .nodes) (limits .top) steps levels ≤ heightMost limits)
-      × (test ≡ true → heightIn (limits .nodes) (limits .top) steps levels ≤ heldMost limits)
-  round-again i l fails test held = (
-    going,
-    pass-again S (labelIn steps levels) (size S) ended,
-    omega (arith, height-is g steps₀ levels₀, height-is g steps levels, height-grows S (labelIn steps₀ levels₀) (labelIn steps levels) moved),
-    omega (arith, height-is g steps levels, most-is g, height-bound S (labelIn steps levels) (S .horizon) (ended .high) (λ v k. omega (arith, going .timed .ends v k))),
-    held,
-  )
-    where
-      d : Difference
-      d = differenceAt S i
+    module _ (steps′ levels′ : List ℕ) (z : Swept S heeded steps levels steps′ levels′ true) where
+      pub round-going : Going S graph differences limits heeded next kept steps′ levels′ × Pass S (labelIn steps′ levels′) 0
+      round-going = (record { given = x .going .given; heeding = y .heeding; allKept = x .going .allKept; timed = z .0 }, z .1 .pass)
 
-      unkept : getD steps (d .to) 0 + d .minus < getD steps (d .from) 0 + d .plus
-      unkept = go (leb (getD steps (d .from) 0 + d .plus) (getD steps (d .to) 0 + d .minus)) refl
-        where
-          go : (t : Bool) → leb (getD steps (d .from) 0 + d .plus) (getD steps (d .to) 0 + d .minus) ≡ t → getD steps (d .to) 0 + d .minus < getD steps (d .from) 0 + d .plus
-          go true e = absurd (fails (holds-at g steps i l (leb-true _ _ e)))
-          go false e = leb-false _ _ e
+      module _ (rounds next-test : ℕ) (few : Few limits (stepsIn (limits .nodes) steps₀) rounds next-test) where
+        moved : stepsIn (limits .nodes) steps < stepsIn (limits .nodes) steps′
+        moved = sweep-most (x .going .given) steps levels steps′ levels′ heeded (z .1) (y .fails)
 
-      m : List·Memᴰ d (S .differences)
-      m = difference-in g i l
+        pub round-more : (rounds + 1 ≡ next-test → ⊥) → Few limits (stepsIn (limits .nodes) steps′) (rounds + 1) next-test
+        round-more = few-more limits _ (stepsIn (limits .nodes) steps) _ rounds next-test few (x .grown) moved
 
-      moved : Moved S (labelIn steps₀ levels₀) (labelIn steps levels)
-      moved =
-          record {
-            flat = p .high;
-            on = passing-grows S (closed g) (labelIn steps₀ levels₀) p (size S) (labelIn steps levels) q;
-            who = d .from;
-            counts = inside S (closed g) d m .0;
-            moves = λ e.
-                omega (
-                  arith,
-                  unkept,
-                  passing-heeds S (closed g) (labelIn steps₀ levels₀) p (size S) (labelIn steps levels) q d m (inside S (closed g) d m .1),
-                  ap (λ (a : Label). a .step) e,
-                );
-          }
+        pub round-tested : rounds + 1 ≡ next-test → test ≡ true → Few limits (stepsIn (limits .nodes) steps′) (rounds + 1) (next-test * 2)
+        round-tested e t =
+            few-tested limits _ (stepsIn (limits .nodes) steps) _ rounds next-test few (x .grown) moved e (held-most (x .going .given) steps levels (y .held t))
+            (omega (arith, timed-most (x .going .given) steps levels (x .going .timed), most-fits (x .going .given)))
 
 -- the least labels are those of the tables, node by node
 least-same : (S : Sheet) → Closed S → (H : ℕ) (L R : ℕ → Label) → ((v : ℕ) → v < size S → R v ≡ L v) → Least S H L → Least S H R
@@ -326,28 +377,3 @@ latency-is-most S graph steps levels n few t e =
           ap (λ (a : Label). a .step) (getD-over (labelIn steps levels) (label 0 0) n v l),
           t .latencies v (omega arith),
         )
-
--- the rounds so far are few, and the next test is near: the labels rise in each round, and at the last test they had risen no further than
--- held nodes can. So twice that many rounds, and two, are the most, whatever the horizon
-pub record Few (limits : R.Header) (height rounds next : ℕ) : Type 0 where
-  pub risen : rounds ≤ height
-  pub early : rounds < next
-  pub near : next ≤ roundsMost limits
-  pub fits : next < 4294967296
-
--- how many rounds there can still be falls
-pub few-left : (limits : R.Header) (height rounds next : ℕ) → Few limits height rounds next
-    → roundsMost limits - (rounds + 1) < roundsMost limits - rounds
-few-left limits height rounds next few = omega (arith, few .early, few .near)
-
-pub few-none : (limits : R.Header) (height : ℕ) → Few limits height 0 2
-few-none limits height = record { risen = omega arith; early = omega arith; near = omega arith; fits = omega arith }
-
-module _ (limits : R.Header) (h k rounds next : ℕ) (few : Few limits h rounds next) (up : h < k) where
-  -- a round without the test, and one with it
-  pub few-more : (rounds + 1 ≡ next → ⊥) → Few limits k (rounds + 1) next
-  few-more n = record { risen = omega (arith, few .risen); early = omega (arith, few .early, n); near = few .near; fits = few .fits }
-
-  pub few-tested : rounds + 1 ≡ next → k ≤ heldMost limits → k < 2147483648 → Few limits k (rounds + 1) (next * 2)
-  few-tested e b s =
-      record { risen = omega (arith, few .risen); early = omega arith; near = omega (arith, few .risen); fits = omega (arith, few .risen) }

@@ -1,18 +1,20 @@
--- What the start, a round and all rounds answer.
+-- What the start, a round, what is heeded after it, and all rounds answer.
 use Prim.Native.Nat.{ℕ, suc, zero, _+_, _-_, _*_, _≤_, _<_}
 use mathlib.Core.Path.{_≡_}
 use mathlib.Core.Bool.{Bool, true}
 use mathlib.Core.List.{List}
 use lib.ListN.{length, getD}
 use Rattle.maps.specs.Limits.{weightMost}
-use Rattle.maps.specs.Sheet.{Sheet}
+use Rattle.maps.specs.Sheet.{Sheet, size}
 use Rattle.maps.specs.Legal.{Least, NoneLegal}
 use Rattle.rows.specs.Table.{delayIn, latencyIn}
 use Rattle.rows.specs.declared.Header as R
 use Rattle.rows.specs.Cells.{Ends}
 use Rattle.relax.specs.Settle.{Pass}
-use Rattle.bound.specs.Lookup.{labelIn}
+use Rattle.bound.specs.Lookup.{labelIn, Heeding}
 use Rattle.bound.specs.Going.{Going}
+use Rattle.hold.specs.Mark.{HeldIn}
+use Rattle.sweep.specs.Sweep.{SomeFails}
 use Rattle.schedule.specs.declared.labels.Turn.{Turn}
 use Rattle.schedule.specs.declared.labels.Turn.the-variants as Is
 
@@ -28,34 +30,48 @@ abbrev pub Started : (graph steps levels : List ℕ) (n horizon : ℕ) → Bool 
 Started graph steps levels n horizon r =
     Ends r (First graph steps levels n horizon) ((v : ℕ) × (v < n) × (horizon < latencyIn graph v))
 
--- how far the labels of n nodes have risen, where a step has the levels up to top
-unfoldable pub heightIn : (n top : ℕ) (steps levels : List ℕ) → ℕ
-heightIn zero top steps levels = 0
-heightIn (suc n) top steps levels = heightIn n top steps levels + (getD steps n 0 * (top + 1) + getD levels n 0)
+-- the sum of the steps of n nodes
+unfoldable pub stepsIn : (n : ℕ) (steps : List ℕ) → ℕ
+stepsIn zero steps = 0
+stepsIn (suc n) steps = stepsIn n steps + getD steps n 0
 
--- the most that they can within the horizon
-unfoldable pub heightMost : R.Header → ℕ
-heightMost limits = limits .nodes * ((limits .horizon + 1) * (limits .top + 1))
+-- the most that it can be within the horizon
+unfoldable pub stepsMost : R.Header → ℕ
+stepsMost limits = limits .nodes * limits .horizon
 
--- the most that they can where every node is held, whatever the horizon
+-- the most that it can be where every node is held, whatever the horizon
 unfoldable pub heldMost : R.Header → ℕ
-heldMost limits = limits .nodes * (((limits .nodes - 1) * weightMost + 1) * (limits .top + 1))
+heldMost limits = limits .nodes * ((limits .nodes - 1) * weightMost)
 
 -- the most rounds that there can be, whatever the horizon
 abbrev pub roundsMost : R.Header → ℕ
 roundsMost limits = heldMost limits + heldMost limits + 2
 
--- least: the labels are the least legal ones. late: nothing is legal within the horizon. again: the labels have risen, and where the test for
--- floating nodes was asked for no further than held nodes can
-abbrev pub RoundEnds : (S : Sheet) (graph differences : List ℕ) (limits : R.Header) (first next kept steps levels steps' levels' : List ℕ) (test : Bool) → Turn → Type 0
-RoundEnds S graph differences limits first next kept steps levels steps' levels' test Is.Least = Least S (S .horizon) (labelIn steps' levels')
-RoundEnds S graph differences limits first next kept steps levels steps' levels' test Is.Late = NoneLegal S
-RoundEnds S graph differences limits first next kept steps levels steps' levels' test Is.Again =
-    Going S graph differences limits first next kept steps' levels'
-    × Pass S (labelIn steps' levels') 0
-    × (heightIn (limits .nodes) (limits .top) steps levels < heightIn (limits .nodes) (limits .top) steps' levels')
-    × (heightIn (limits .nodes) (limits .top) steps' levels' ≤ heightMost limits)
-    × (test ≡ true → heightIn (limits .nodes) (limits .top) steps' levels' ≤ heldMost limits)
+-- after a pass every node keeps its conditions but for a difference that fails, and the steps have not fallen
+pub record GoesOn (S : Sheet) (graph differences : List ℕ) (limits : R.Header) (first heeded next kept steps steps' levels' : List ℕ) : Type 0 where
+  pub going : Going S graph differences limits heeded next kept steps' levels'
+  pub settled : Pass S (labelIn steps' levels') (size S)
+  pub fails : SomeFails differences first steps' (limits .differences)
+  pub grown : stepsIn (limits .nodes) steps ≤ stepsIn (limits .nodes) steps'
+
+-- least: the labels are the least legal ones. late: nothing is legal within the horizon. again: they go on
+abbrev pub RoundEnds : (S : Sheet) (graph differences : List ℕ) (limits : R.Header) (first heeded next kept steps steps' levels' : List ℕ) → Turn → Type 0
+RoundEnds S graph differences limits first heeded next kept steps steps' levels' Is.Least = Least S (S .horizon) (labelIn steps' levels')
+RoundEnds S graph differences limits first heeded next kept steps steps' levels' Is.Late = NoneLegal S
+RoundEnds S graph differences limits first heeded next kept steps steps' levels' Is.Again =
+    GoesOn S graph differences limits first heeded next kept steps steps' levels'
+
+-- some differences are heeded, of which one fails; where the test was asked for every node is held
+pub record Heeds (graph differences : List ℕ) (limits : R.Header) (next steps heeded : List ℕ) (test : Bool) : Type 0 where
+  pub heeding : Heeding differences (limits .differences) heeded next
+  pub fails : SomeFails differences heeded steps (limits .differences)
+  pub held : test ≡ true → (v : ℕ) → v < limits .nodes → HeldIn graph differences steps (limits .nodes) (limits .differences) v
+
+-- the same, or a node floats
+abbrev pub HeedEnds : (graph differences : List ℕ) (limits : R.Header) (next steps heeded : List ℕ) (test : Bool) → Bool → Type 0
+HeedEnds graph differences limits next steps heeded test r =
+    Ends r (Heeds graph differences limits next steps heeded test)
+    ((v : ℕ) × (v < limits .nodes) × (HeldIn graph differences steps (limits .nodes) (limits .differences) v → ⊥))
 
 -- the labels are the least legal ones, or nothing is legal within the horizon
 abbrev pub Relaxed : (S : Sheet) (steps levels : List ℕ) → Bool → Type 0

@@ -1,4 +1,5 @@
-// The least labels: passes from the earliest labels on, until every difference holds, a label ends after the horizon, or nodes float.
+// The least labels: passes from the earliest labels on, with a sweep over the differences between two of them, until every difference holds, a label
+// ends after the horizon, or nodes float.
 ghost use mathlib.Core.Path.{_≡_};
 ghost use mathlib.Core.List.{List, []};
 ghost use Prim.Native.Nat.{ℕ, _+_, _<_, _≤_};
@@ -8,12 +9,11 @@ ghost use Rattle.maps.specs.Least.{at, leastLabels, late, least};
 ghost use Rattle.maps.specs.Outcome.{cutless};
 ghost use Rattle.rows.specs.Table.{Tabled};
 ghost use Rattle.rows.specs.Cells.{Ends};
-ghost use Rattle.bound.specs.Lookup.{labelsIn, Soon};
-ghost use Rattle.bound.specs.Going.{Given, AllKept};
-ghost use Rattle.schedule.specs.Turn.{Underway, Onward};
-ghost use Rattle.schedule.specs.Round.{Started, RoundEnds, Relaxed};
-use crate::pass::differences_hold;
-use crate::pass::pass;
+ghost use Rattle.bound.specs.Lookup.{labelsIn, Soon, Linked, Heeding};
+ghost use Rattle.bound.specs.Going.{Given, Timed, AllKept};
+ghost use Rattle.pass.specs.Turn.{Underway, Onward};
+ghost use Rattle.sweep.specs.Sweep.{SomeFails};
+ghost use Rattle.schedule.specs.Round.{Started, RoundEnds, HeedEnds, Relaxed};
 use bound::Levels;
 use bound::Steps;
 use bound::clear_labels;
@@ -24,11 +24,16 @@ use hold::floats;
 use level::Cuts;
 use maps::Label;
 use maps::Step;
+use pass::pass;
 use rows::Differences;
 use rows::Graph;
 use rows::Header;
 use rows::delay_in;
 use rows::latency_in;
+use sweep::differences_hold;
+use sweep::freeze;
+use sweep::sweep;
+use sweep::thaw;
 
 // What a round comes to.
 pub enum Turn {
@@ -57,37 +62,70 @@ pub fn start(graph: &Graph, steps: &mut Steps, levels: &mut Levels, n: u32, hori
     true
 }
 
-// A pass, and whether it was the last; `test` asks for the floating-set test too.
+// A pass with the heeded differences, and whether it was the last.
 pub fn round(
     graph: &Graph,
     differences: &Differences,
     limits: Header,
     first: &[u32; 256],
+    heeded: &[u32; 256],
     next: &[u32; 1024],
     kept: &mut Cuts,
     steps: &mut Steps,
     levels: &mut Levels,
-    test: bool,
 ) -> Turn
-    requires { ⌜ Underway (now graph) (now differences) limits (now first) (now next) (now kept) (now steps) (now levels) 0 ⌝ }
-    ensures { λ r. ⌜ Onward (now (graph .entry)) (now (differences .entry)) limits (now (first .entry)) (now (next .entry)) (now (kept .entry)) (now (steps .entry)) (now (levels .entry)) 0
-        (λ S. RoundEnds S (now (graph .entry)) (now (differences .entry)) limits (now (first .entry)) (now (next .entry)) (now (kept .exit)) (now (steps .entry)) (now (levels .entry)) (now (steps .exit)) (now (levels .exit)) test r) ⌝ }
+    requires { ⌜ Linked (now differences) (limits .differences) (now first) (now next) ⌝ }
+    requires { ⌜ Underway (now graph) (now differences) limits (now heeded) (now next) (now kept) (now steps) (now levels) 0 ⌝ }
+    ensures { λ r. ⌜ Onward (now (graph .entry)) (now (differences .entry)) limits (now (heeded .entry)) (now (next .entry)) (now (kept .entry)) (now (steps .entry)) (now (levels .entry)) 0
+        (λ S. RoundEnds S (now (graph .entry)) (now (differences .entry)) limits (now (first .entry)) (now (heeded .entry)) (now (next .entry)) (now (kept .exit)) (now (steps .entry)) (now (steps .exit)) (now (levels .exit)) r) ⌝ }
 {
-    if !pass(graph, differences, limits, first, next, kept, steps, levels) {
+    if !pass(graph, differences, limits, heeded, next, kept, steps, levels) {
         return Turn::Late;
     }
-    if differences_hold(differences, steps, limits.differences) {
+    if differences_hold(differences, first, steps, limits.differences) {
         return Turn::Least;
-    }
-    if test {
-        if floats(graph, differences, steps, limits.nodes, limits.differences) {
-            return Turn::Late;
-        }
     }
     Turn::Again
 }
 
-// Rounds until one is the last, with the floating-set test after 2, 4, 8, .. of them.
+// Which differences are heeded next. Where `test` is set, whether no node floats, and if so only the differences into nodes that have moved since
+// the last test are heeded; where these hold, all are.
+pub fn heed(
+    graph: &Graph,
+    differences: &Differences,
+    limits: Header,
+    first: &[u32; 256],
+    next: &[u32; 1024],
+    steps: &Steps,
+    since: &mut Steps,
+    heeded: &mut [u32; 256],
+    test: bool,
+) -> bool
+    requires { ⌜ ((S : Sheet) × (levels : List ℕ) × Given S (now graph) (now differences) limits × Timed S (now steps) levels) ⌝ }
+    requires { ⌜ Linked (now differences) (limits .differences) (now first) (now next) ⌝ }
+    requires { ⌜ Heeding (now differences) (limits .differences) (now heeded) (now next) ⌝ }
+    requires { ⌜ SomeFails (now differences) (now first) (now steps) (limits .differences) ⌝ }
+    ensures { λ r. ⌜ HeedEnds (now (graph .entry)) (now (differences .entry)) limits (now (next .entry)) (now (steps .entry)) (now (heeded .exit)) test r ⌝ }
+{
+    if test {
+        if floats(
+            graph,
+            differences,
+            first,
+            next,
+            steps,
+            limits.nodes,
+            limits.differences,
+        ) {
+            return false;
+        }
+        freeze(first, steps, since, heeded, limits.nodes);
+    }
+    thaw(differences, first, steps, heeded, limits.differences);
+    true
+}
+
+// Rounds until one is the last, with a sweep after each, and the floating-set test after 2, 4, 8, .. of them.
 pub fn relax(
     graph: &Graph,
     differences: &Differences,
@@ -98,9 +136,12 @@ pub fn relax(
     steps: &mut Steps,
     levels: &mut Levels,
 ) -> bool
+    requires { ⌜ Linked (now differences) (limits .differences) (now first) (now next) ⌝ }
     requires { ⌜ Underway (now graph) (now differences) limits (now first) (now next) (now kept) (now steps) (now levels) 0 ⌝ }
     ensures { λ r. ⌜ Onward (now (graph .entry)) (now (differences .entry)) limits (now (first .entry)) (now (next .entry)) (now (kept .entry)) (now (steps .entry)) (now (levels .entry)) 0 (λ S. Relaxed S (now (steps .exit)) (now (levels .exit)) r) ⌝ }
 {
+    let mut heeded = *first;
+    let mut since = *steps;
     let mut rounds: u32 = 0;
     let mut next_test: u32 = 2;
     loop {
@@ -111,16 +152,32 @@ pub fn relax(
             differences,
             limits,
             first,
+            &heeded,
             next,
             kept,
             steps,
             levels,
-            test,
         );
         match turn {
             Turn::Least => return true,
             Turn::Late => return false,
             Turn::Again => {}
+        }
+        if !heed(
+            graph,
+            differences,
+            limits,
+            first,
+            next,
+            steps,
+            &mut since,
+            &mut heeded,
+            test,
+        ) {
+            return false;
+        }
+        if !sweep(graph, differences, limits, &heeded, next, steps, levels) {
+            return false;
         }
         if test {
             next_test *= 2;

@@ -1,6 +1,5 @@
 // The least legal labels of a sheet within its horizon, or that no labelling is legal within it.
 mod labels;
-mod pass;
 
 pub use labels::latency;
 pub use labels::least_labels;

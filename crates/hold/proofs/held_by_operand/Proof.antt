@@ -72,7 +72,7 @@ returns c =
     let h = held-yes (s .args .held .now) _ (f .before .if1 .taken) in (
       i .before .loop .j,
       rw n at (i .loop-test .taken),
-      near-by (s .args .graph .now) (s .args .steps .now) (s .args .held .now) (s .args .v) (i .before .loop .j) (o .operand-in .ensures) (f .ready-step .ensures) (i .before .before .step-of .ensures) h (c .if2 .taken),
+      near-by (s .args .graph .now) (s .args .steps .now) (s .args .held .now) (s .args .v) (i .before .loop .j) (o .operand-in .ensures) (f .ready-step .ensures) (i .before .before .step-of .ensures) h (omega (arith, c .if2 .taken)),
     )
 
 loop-again : tie.Need-loop-again Inv-loop μ-loop

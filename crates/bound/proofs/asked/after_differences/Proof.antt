@@ -1,4 +1,4 @@
--- `asked::after_differences` meets its contract. The invariant: `most` is the greatest over the differences into v from e on, and e is 0 or
+-- `asked::after_differences` meets its contract. The invariant: `most` is the greatest over the heeded differences into v from e on, and e is 0 or
 -- one more than the next of them.
 use Prim.Native.Nat.{ℕ, _+_, _-_, _≤_, _<_}
 use mathlib.Core.Path.{_≡_, refl, sym, ap, _∙_}
@@ -9,27 +9,27 @@ use native.Mathlib.Omega.{arith}
 use lib.Dec.{ltb}
 use lib.ListN.{getD}
 use borrow.Author.Tests.{ltb-true, ltb-false}
-use Rattle.rows.specs.Table.{fromIn, toIn, plusIn, minusIn}
-use Rattle.bound.specs.Lookup.{lastInto}
-use Rattle.bound.specs.Bound.{Greatest}
-use Rattle.bound.proofs.Asking.{greatest-none, greatest-more, greatest-same, last-le, last-hit, last-none}
+use Rattle.rows.specs.Table.{toIn}
+use Rattle.bound.specs.Lookup.{lastInto, Heeded}
+use Rattle.bound.specs.Bound.{Greatest, Into, pushOf}
+use Rattle.bound.proofs.Asking.{greatest-none, greatest-more, greatest-same, last-le, last-hit, last-none, head-le, head-hit, head-none}
 use borrow.Author.Needs.{needs}
 use Rattle.bound.proofs.asked.after_differences.Statement.{statement}
 use Rattle.bound.proofs.asked.after_differences.Tie as tie
 
 -- a difference into v from n on, where n is the one before e: from e on, or e itself
-into : (d : List ℕ) (e m v n i : ℕ) → n ≡ lastInto d (e - 1) v → 0 < e → (n ≤ i) × (i < m) × (toIn d i ≡ v) → ((e ≤ i) × (i < m) × (toIn d i ≡ v)) ⊎ (i ≡ e - 1)
-into d e m v n i q t w = go (ltb i (e - 1)) (ltb i e) refl refl
+into : (d first : List ℕ) (e m v n i : ℕ) → n ≡ lastInto d (e - 1) v → 0 < e → (n ≤ i) × Into d first m v i → ((e ≤ i) × Into d first m v i) ⊎ (i ≡ e - 1)
+into d first e m v n i q t w = go (ltb i (e - 1)) (ltb i e) refl refl
   where
-    go : (x y : Bool) → ltb i (e - 1) ≡ x → ltb i e ≡ y → ((e ≤ i) × (i < m) × (toIn d i ≡ v)) ⊎ (i ≡ e - 1)
-    go true y p r = absurd (last-none d (e - 1) v i (omega (arith, w .0)) (ltb-true _ _ p) (w .2))
+    go : (x y : Bool) → ltb i (e - 1) ≡ x → ltb i e ≡ y → ((e ≤ i) × Into d first m v i) ⊎ (i ≡ e - 1)
+    go true y p r = absurd (last-none d (e - 1) v i (omega (arith, w .0)) (ltb-true _ _ p) (w .1 .1))
     go false true p r = inr (omega (arith, ltb-false, ltb-true))
-    go false false p r = inl (ltb-false _ _ r, w .1, w .2)
+    go false false p r = inl (ltb-false _ _ r, w .1)
 
 abbrev Inv-loop : tie.InvT-loop
 Inv-loop differences first next steps m v most₀ e₀ most e =
-    (e ≤ m) × ((j : ℕ) → e ≡ j + 1 → toIn differences j ≡ v)
-    × Greatest (most₀ .0) (λ i. (e ≤ i) × (i < m) × (toIn differences i ≡ v)) (λ i. getD steps (fromIn differences i) 0 + plusIn differences i - minusIn differences i) (most .0)
+    (e ≤ m) × ((j : ℕ) → e ≡ j + 1 → toIn differences j ≡ v) × (0 < e → Heeded first v)
+    × Greatest (most₀ .0) (λ i. (e ≤ i) × Into differences first m v i) (pushOf differences steps) (most .0)
 
 abbrev μ-loop : tie.MeasureT-loop
 μ-loop differences first next steps m v most₀ e₀ most e = e
@@ -39,12 +39,13 @@ loop-holds c =
     let s = c .before in
     let a = s .args in
     let d = a .differences .now in
-    let h = s .pre .1 .0 .heads (a .v) (s .pre .0 .0) in
-    let le = last-le d (a .m) (a .v) in (
-      omega arith,
-      λ j e. last-hit d (a .m) (a .v) j (sym h ∙ e),
-      greatest-none (a .s .0) (λ i. getD (a .steps .now) (fromIn d i) 0 + plusIn d i - minusIn d i) (λ i. (getD (a .first .now) (a .v) 0 ≤ i) × (i < a .m) × (toIn d i ≡ a .v))
-          (λ i p. last-none d (a .m) (a .v) i (omega (arith, p .0)) (p .1) (p .2)),
+    let k = s .pre .1 .0 in
+    let v = s .pre .0 .0 in (
+      head-le d k (a .v) v,
+      head-hit d k (a .v) v,
+      λ h. h,
+      greatest-none (a .s .0) (pushOf d (a .steps .now)) (λ i. (getD (a .first .now) (a .v) 0 ≤ i) × Into d (a .first .now) (a .m) (a .v) i)
+          (λ i p. head-none d k (a .v) v i (p .0) (p .1)),
     )
 
 pushed-requires : tie.Need-pushed-requires Inv-loop μ-loop
@@ -73,6 +74,7 @@ loop-again c =
     let s = c .before .before .before .before .before in
     let a = s .args in
     let d = a .differences .now in
+    let f = a .first .now in
     let l = c .before .before .before .loop in
     let t = c .before .before .loop-test .taken in
     let h = l .inv .0 in
@@ -83,10 +85,11 @@ loop-again c =
     let p = c .before .pushed in (
       omega arith,
       λ j e. last-hit d (l .e - 1) (a .v) j (sym q ∙ e),
-      greatest-more (a .s .0) (λ i. getD (a .steps .now) (fromIn d i) 0 + plusIn d i - minusIn d i) (λ i. (l .e ≤ i) × (i < a .m) × (toIn d i ≡ a .v)) (λ i. (n ≤ i) × (i < a .m) × (toIn d i ≡ a .v))
-          (l .most .0) (l .e - 1) (p .result .0) (l .inv .2)
-          (λ i w. into d (l .e) (a .m) (a .v) n i q t w)
-          (λ i w. (omega (arith, w .0), w .1, w .2)) (omega arith, omega arith, hit) (p .ensures),
+      λ z. l .inv .2 t,
+      greatest-more (a .s .0) (pushOf d (a .steps .now)) (λ i. (l .e ≤ i) × Into d f (a .m) (a .v) i) (λ i. (n ≤ i) × Into d f (a .m) (a .v) i)
+          (l .most .0) (l .e - 1) (p .result .0) (l .inv .3)
+          (λ i w. into d f (l .e) (a .m) (a .v) n i q t w)
+          (λ i w. (omega (arith, w .0), w .1)) (omega arith, (omega arith, hit, l .inv .2 t)) (p .ensures),
     )
 
 returns : tie.Need-returns Inv-loop μ-loop
@@ -96,8 +99,8 @@ returns c =
     let d = a .differences .now in
     let l = c .before .loop in
     let t = c .loop-test .left in
-    greatest-same (a .s .0) (λ i. getD (a .steps .now) (fromIn d i) 0 + plusIn d i - minusIn d i) (λ i. (l .e ≤ i) × (i < a .m) × (toIn d i ≡ a .v)) (λ i. (i < a .m) × (toIn d i ≡ a .v)) (l .most .0) (l .inv .2)
-    (λ i w. (omega arith, w .0, w .1)) (λ i w. (w .1, w .2))
+    greatest-same (a .s .0) (pushOf d (a .steps .now)) (λ i. (l .e ≤ i) × Into d (a .first .now) (a .m) (a .v) i) (Into d (a .first .now) (a .m) (a .v)) (l .most .0) (l .inv .3)
+    (λ i w. (omega arith, w)) (λ i w. w .1)
 
 pub after-differences-spec : {M : Type 1} → statement M
 after-differences-spec =

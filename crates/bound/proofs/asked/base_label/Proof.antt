@@ -12,7 +12,7 @@ returns : tie.Need-returns
 returns c = λ S b.
     let a = c .before .before .before .before .before .args in
     let q = c .before .before .before .before .step-asked in
-    let r = q .ensures S (a .levels .now) b in
+    let r = q .ensures .0 S (a .levels .now) b in
     let own = labelIn (a .steps .now) (a .levels .now) (a .v) in
     record {
       step = q .result .0;

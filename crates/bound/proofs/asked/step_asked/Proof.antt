@@ -19,17 +19,20 @@ after-operands-requires c κs =
 after-differences-requires : tie.Need-after-differences-requires
 after-differences-requires c κs =
     let b = c .before .before .pre .2 in
-    ((node-in (b .given) _ (b .node) .1, few-differences (b .given)), (b .linked, summed-all (b .given) (b .timed)))
+    ((node-in (b .given) _ (b .node) .1, few-differences (b .given)), (b .heeding, summed-all (b .given) (b .timed)))
 
 returns : tie.Need-returns
-returns c = λ S levels b.
+returns c =
     let a = c .before .before .before .args in
-    let l = node-in (b .given) (a .v) (b .node) .0 in
     let o = c .before .after-operands in
     let d = c .after-differences in
     let ops = subst (λ (n : ℕ). Greatest n (λ j. j < countIn (a .graph .now) (a .v)) (readyStep (a .graph .now) (a .steps .now) (a .v)) (o .result .0)) (c .before .before .step-of .ensures) (o .ensures) in (
-      asks-tables S (a .graph .now) (a .differences .now) (a .limits) (b .given) (a .steps .now) levels (b .timed) (a .v) l (o .result .0) (d .result .0) ops (d .ensures),
-      asks-small S (a .graph .now) (a .differences .now) (a .limits) (b .given) (a .steps .now) levels (b .timed) (a .v) l (o .result .0) (d .result .0) ops (d .ensures),
+      λ S levels b.
+          let l = node-in (b .given) (a .v) (b .node) .0 in (
+            asks-tables S (a .graph .now) (a .differences .now) (a .limits) (b .given) (a .steps .now) levels (b .timed) (a .v) l (a .first .now) (o .result .0) (d .result .0) (d .ensures) ops,
+            asks-small S (a .graph .now) (a .differences .now) (a .limits) (b .given) (a .steps .now) levels (b .timed) (a .v) l (a .first .now) (o .result .0) (d .result .0) (d .ensures) ops,
+          ),
+      d .ensures .all,
     )
 
 pub step-asked-spec : {M : Type 1} → statement M

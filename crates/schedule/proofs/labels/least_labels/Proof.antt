@@ -20,7 +20,8 @@ relax-requires c κs =
     let e = h .before .start in
     let p = h .before .before .before .before .pre in
     let f = rw (not-false (e .result) (h .if1 .left)) at (e .ensures) in
-    (p .0, first-going (p .1) (c .before .before .before .before .before .link .ensures) (p .2) f, first-pass (p .1) f)
+    let k = c .before .before .before .before .before .link .ensures in
+    (k, (p .0, first-going (p .1) k (p .2) f, first-pass (p .1) f))
 
 returns-2 : tie.Need-returns-2
 returns-2 c S given kept cuts =

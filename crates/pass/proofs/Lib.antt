@@ -1,0 +1,2 @@
+pub mod TurnNode
+pub mod Turns
