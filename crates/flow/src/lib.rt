@@ -90,6 +90,9 @@ fn enter(
         return true;
     }
     if c == 0 {
+        if seen[i] != 0 {
+            return false;
+        }
         return expand(graph, code, seen, above, x, from);
     }
     let m = i + 256;

@@ -64,31 +64,40 @@ enter-returns t c =
     let start = s .pre .1 .0 in
     Laws.enter-late graph code seen above (s .args .x) (s .args .from) (start .flow) (s .pre .1 .1) (c .if1 .taken)
 
-enter-expand-requires : (t : ℕ) → enter-lts.Need-expand-requires (expand-below t, expand.Post) (enter-at t) enter.Post
-enter-expand-requires t c κs =
-    let s = c .before .before .before .before .before in
-    let graph = s .args .graph .now in
-    let code = s .args .code .now in
-    let start = s .pre .1 .0 in
-    let m = s .pre .0 in
-    let z = c .before .before .if2 .taken in
-    (omega arith, (start, (Laws.under-link graph code (s .args .from) (s .args .x) z (s .pre .1 .1), inr z)))
-
 enter-returns-2 : (t : ℕ) → enter-lts.Need-returns-2 (expand-below t, expand.Post) (enter-at t) enter.Post
 enter-returns-2 t c =
-    let s = c .before .before .before .before .before .before in
-    let code = s .args .code .now in
-    let e = c .expand in
-    Cells.ends-map (e .result) (λ d. d) (λ d. (d .0, Laws.entered-inside code (e .last .1 .1 .0) (s .args .x) (c .before .before .before .if2 .taken) (d .1))) (e .ensures)
-
-enter-returns-3 : (t : ℕ) → enter-lts.Need-returns-3 (expand-below t, expand.Post) (enter-at t) enter.Post
-enter-returns-3 t c =
     let s = c .before .before .before .before .before in
     let graph = s .args .graph .now in
     let code = s .args .code .now in
     let seen = s .args .seen .now in
     let above = s .args .above .now in
-    (Laws.block-none graph code seen above, Laws.entered-leaf code seen (s .args .x) (c .before .before .if2 .left) (c .before .before .before .if1 .left) (c .if3 .taken))
+    (Laws.block-none graph code seen above, Laws.entered-inside code seen (s .args .x) (c .before .before .if2 .taken) (c .if3 .taken))
+
+enter-expand-requires : (t : ℕ) → enter-lts.Need-expand-requires (expand-below t, expand.Post) (enter-at t) enter.Post
+enter-expand-requires t c κs =
+    let s = c .before .before .before .before .before .before .before in
+    let graph = s .args .graph .now in
+    let code = s .args .code .now in
+    let start = s .pre .1 .0 in
+    let m = s .pre .0 in
+    let z = c .before .before .before .before .if2 .taken in
+    (omega arith, (start, (Laws.under-link graph code (s .args .from) (s .args .x) z (s .pre .1 .1), inr z)))
+
+enter-returns-3 : (t : ℕ) → enter-lts.Need-returns-3 (expand-below t, expand.Post) (enter-at t) enter.Post
+enter-returns-3 t c =
+    let s = c .before .before .before .before .before .before .before .before in
+    let code = s .args .code .now in
+    let e = c .expand in
+    Cells.ends-map (e .result) (λ d. d) (λ d. (d .0, Laws.entered-inside code (e .last .1 .1 .0) (s .args .x) (c .before .before .before .before .before .if2 .taken) (d .1))) (e .ensures)
+
+enter-returns-4 : (t : ℕ) → enter-lts.Need-returns-4 (expand-below t, expand.Post) (enter-at t) enter.Post
+enter-returns-4 t c =
+    let s = c .before .before .before .before .before in
+    let graph = s .args .graph .now in
+    let code = s .args .code .now in
+    let seen = s .args .seen .now in
+    let above = s .args .above .now in
+    (Laws.block-none graph code seen above, Laws.entered-leaf code seen (s .args .x) (c .before .before .if2 .left) (c .before .before .before .if1 .left) (c .if4 .taken))
 
 enter-expand-requires-2 : (t : ℕ) → enter-lts.Need-expand-requires-2 (expand-below t, expand.Post) (enter-at t) enter.Post
 enter-expand-requires-2 t c κs =
@@ -100,7 +109,7 @@ enter-expand-requires-2 t c κs =
     let start = s .pre .1 .0 in
     let in-s : s .args .x + 256 < length seen = (let l = start .marks in let n = start .node in omega arith) in
     let m = s .pre .0 in
-    let z = Cells.zeros-mark seen (s .args .x + 256) in-s (c .before .before .before .if3 .left) in
+    let z = Cells.zeros-mark seen (s .args .x + 256) in-s (c .before .before .before .if4 .left) in
     let q = start .flow .low (s .args .x) (start .node) in (
       omega arith,
       (
@@ -108,19 +117,6 @@ enter-expand-requires-2 t c κs =
         (Laws.under-self graph code (cell above (s .args .x)), inl refl),
       ),
     )
-
-enter-returns-4 : (t : ℕ) → enter-lts.Need-returns-4 (expand-below t, expand.Post) (enter-at t) enter.Post
-enter-returns-4 t c =
-    let s = c .before .before .before .before .before .before .before .before .before .before in
-    let graph = s .args .graph .now in
-    let code = s .args .code .now in
-    let seen = s .args .seen .now in
-    let above = s .args .above .now in
-    let start = s .pre .1 .0 in
-    let in-s : s .args .x + 256 < length seen = (let l = start .marks in let n = start .node in omega arith) in
-    let e = c .before .expand2 in
-    Laws.enter-push graph code seen (e .last .1 .1 .0) above (e .last .1 .1 .1 .0) (s .args .x) (s .args .from) (start .node) in-s (c .before .before .before .before .before .if3 .left) (c .before .before .before .before .before .before .before .if2 .left) (c .before .before .before .before .before .before .before .before .if1 .left)
-    (start .source) (start .below) (s .pre .1 .1) (Cells.succeeded _ _ (e .result) (c .if4 .taken) (e .ensures))
 
 enter-returns-5 : (t : ℕ) → enter-lts.Need-returns-5 (expand-below t, expand.Post) (enter-at t) enter.Post
 enter-returns-5 t c =
@@ -132,8 +128,21 @@ enter-returns-5 t c =
     let start = s .pre .1 .0 in
     let in-s : s .args .x + 256 < length seen = (let l = start .marks in let n = start .node in omega arith) in
     let e = c .before .expand2 in
-    let f = Cells.failed _ _ (e .result) (c .if4 .left) (e .ensures) in
-    Laws.enter-block graph code seen (e .last .1 .1 .0) above (e .last .1 .1 .1 .0) (s .args .x) (s .args .from) (start .node) in-s (c .before .before .before .before .before .if3 .left) (c .before .before .before .before .before .before .before .if2 .left) (c .before .before .before .before .before .before .before .before .if1 .left) (f .0) (f .1)
+    Laws.enter-push graph code seen (e .last .1 .1 .0) above (e .last .1 .1 .1 .0) (s .args .x) (s .args .from) (start .node) in-s (c .before .before .before .before .before .if4 .left) (c .before .before .before .before .before .before .before .if2 .left) (c .before .before .before .before .before .before .before .before .if1 .left)
+    (start .source) (start .below) (s .pre .1 .1) (Cells.succeeded _ _ (e .result) (c .if5 .taken) (e .ensures))
+
+enter-returns-6 : (t : ℕ) → enter-lts.Need-returns-6 (expand-below t, expand.Post) (enter-at t) enter.Post
+enter-returns-6 t c =
+    let s = c .before .before .before .before .before .before .before .before .before .before in
+    let graph = s .args .graph .now in
+    let code = s .args .code .now in
+    let seen = s .args .seen .now in
+    let above = s .args .above .now in
+    let start = s .pre .1 .0 in
+    let in-s : s .args .x + 256 < length seen = (let l = start .marks in let n = start .node in omega arith) in
+    let e = c .before .expand2 in
+    let f = Cells.failed _ _ (e .result) (c .if5 .left) (e .ensures) in
+    Laws.enter-block graph code seen (e .last .1 .1 .0) above (e .last .1 .1 .1 .0) (s .args .x) (s .args .from) (start .node) in-s (c .before .before .before .before .before .if4 .left) (c .before .before .before .before .before .before .before .if2 .left) (c .before .before .before .before .before .before .before .before .if1 .left) (f .0) (f .1)
 
 expand-returns : (t : ℕ) → expand-lts.Need-returns (scan-below t, scan.Post, enter-below t, enter.Post) (expand-at t) expand.Post
 expand-returns t c =
@@ -389,19 +398,21 @@ pub +enter+expand+scan-spec : {M : Type 1} → statement M
     (λ t. enter-lts.spec (expand-below t, expand.Post) (enter-at t) enter.Post
     (λ c. search needs)
     (enter-returns t)
-    (enter-expand-requires t)
+    (λ c. search needs)
     (enter-returns-2 t)
-    (λ c. search needs)
-    (λ c. search needs)
+    (enter-expand-requires t)
     (enter-returns-3 t)
+    (λ c. search needs)
+    (λ c. search needs)
+    (enter-returns-4 t)
     (λ c. search needs)
     (λ c. search needs)
     (λ c. search needs)
     (enter-expand-requires-2 t)
     (λ c. search needs)
     (λ c. search needs)
-    (enter-returns-4 t)
-    (enter-returns-5 t))
+    (enter-returns-5 t)
+    (enter-returns-6 t))
     (λ t. expand-lts.spec (scan-below t, scan.Post, enter-below t, enter.Post) (expand-at t) expand.Post
     (λ c. search needs)
     (expand-returns t)
