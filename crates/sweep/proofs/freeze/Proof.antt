@@ -2,7 +2,7 @@
 use borrow.Author.Needs.{needs}
 use native.Mathlib.Omega.{arith}
 use Prim.Native.Nat.{ℕ, _+_, _-_, _≤_}
-use mathlib.Core.Path.{refl, sym, subst, _∙_}
+use mathlib.Core.Path.{refl, sym, subst}
 use mathlib.Core.List.{List}
 use mathlib.Core.Logic.{⊎-elim}
 use Rattle.sweep.specs.Sweep.{Frozen}
@@ -36,8 +36,8 @@ loop-again c =
     let o = a .step-of .ensures in
     let p = b .step-of2 .ensures in (
       omega arith,
-      ⊎-elim (λ w. subst (λ (h : List ℕ). Frozen (s .args .first .now) (s .args .steps .now) (s .args .since .now) h (l .v + 1)) (sym (w .2)) (frozen-moved (omega arith) (l .inv .1) (λ z. w .0 .taken (o ∙ z ∙ sym p))))
-          (λ w. subst (λ (h : List ℕ). Frozen (s .args .first .now) (s .args .steps .now) (s .args .since .now) h (l .v + 1)) (sym (w .1)) (frozen-still (omega arith) (l .inv .1) (sym o ∙ w .0 .left ∙ p)))
+      ⊎-elim (λ w. subst (λ (h : List ℕ). Frozen (s .args .first .now) (s .args .steps .now) (s .args .since .now) h (l .v + 1)) (sym (w .2)) (frozen-moved (omega arith) (l .inv .1) (λ z. omega (arith, w .0 .taken))))
+          (λ w. subst (λ (h : List ℕ). Frozen (s .args .first .now) (s .args .steps .now) (s .args .since .now) h (l .v + 1)) (sym (w .1)) (frozen-still (omega arith) (l .inv .1) (omega (arith, w .0 .left))))
           (c .if1 .came),
     )
 
