@@ -209,6 +209,49 @@ pub fn stairs(random: &mut Random) -> Sheet {
     sheet
 }
 
+/// Numbers from 0 to n - 1 in any order.
+fn shuffled(random: &mut Random, n: u32) -> Vec<u32> {
+    let mut all: Vec<u32> = (0..n).collect();
+    for i in (1..all.len()).rev() {
+        all.swap(i, random.within(0, i as u32) as usize);
+    }
+    all
+}
+
+/// A sheet of up to `most` nodes, inputs below and boxes above them, with a ring of differences through many of its nodes in any order, rising or
+/// falling: the ring pushes operands on which it rests, so that labels settle after many rounds or never. With `tables` some boxes are tables.
+pub fn ring(random: &mut Random, most: u32, tables: bool) -> Sheet {
+    let n = random.within(2, most);
+    let inputs = random.within(1, n - 1);
+    let top = random.within(1, 3);
+    let nodes = (0..n)
+        .map(|own| {
+            let count = if own < inputs { 0 } else { random.within(1, 2) };
+            let operands: Vec<u32> = (0..count).map(|_| if random.once_in(2) { own - 1 } else { random.within(0, own - 1) }).collect();
+            match own {
+                _ if own < inputs => input(),
+                _ if tables && random.once_in(3) => Node { delay: random.within(1, top), ..table(random.once_in(2), &operands) },
+                _ => Node { kind: 2, output: false, delay: random.within(0, 1), latency: random.within(0, 8) / 8, operands },
+            }
+        })
+        .collect();
+    let mut order = shuffled(random, n);
+    order.truncate(random.within(2, n) as usize);
+    match random.within(0, 3) {
+        0 => order.sort(),
+        1 => order.sort_by(|a, b| b.cmp(a)),
+        _ => {}
+    }
+    let gain = order[random.within(0, order.len() as u32 - 1) as usize];
+    let weight = random.within(0, 3) as i32 - 2;
+    let mut differences: Vec<Difference> = (0..order.len())
+        .map(|i| (order[i], order[(i + 1) % order.len()]))
+        .map(|(from, to)| Difference { from, to, weight: if from == gain { weight } else { -(random.within(0, 5) as i32 / 5) } })
+        .collect();
+    differences.push(Difference { from: random.within(0, n - 1), to: random.within(0, n - 1), weight: random.within(0, 20) as i32 });
+    Sheet { leaves: 3, top, horizon: random.within(10, 60), nodes, differences }
+}
+
 /// The greatest sheet with its boxes and differences changed.
 pub fn variant(random: &mut Random, latency: u32, weight: impl Fn(u32) -> (u32, u32, i32)) -> Sheet {
     let mut sheet = greatest(random);

@@ -3,7 +3,7 @@
 #![cfg(planner)]
 use maps_tests::labels::{fitting_cuts, least, legal, Label};
 use maps_tests::library::{plan, PlanAnswer};
-use maps_tests::made::{self, chain, damaged, greatest, input, numbers, small, spelled, stairs, table, variant, Size};
+use maps_tests::made::{self, chain, damaged, greatest, input, numbers, ring, small, spelled, stairs, table, variant, Size};
 use maps_tests::plan::{refusal_line, Plan};
 use maps_tests::planner::outcome;
 use maps_tests::random::Random;
@@ -72,6 +72,14 @@ fn compare_all(seed: u64, rounds: u32, mut bytes: impl FnMut(&mut Random, u32) -
 fn sheets_with_stairs() {
     let met = compare_all(SEED + 6, 20000, |random, _| spelled(&numbers(&stairs(random))));
     assert!(met[0] > 5000 && met[7] > 5000, "{met:?}");
+}
+
+#[test]
+fn sheets_with_rings() {
+    let met = compare_all(SEED + 7, 12000, |random, _| spelled(&numbers(&ring(random, 11, true))));
+    assert!(met[0] > 2000 && met[7] > 2000, "{met:?}");
+    let met = compare_all(SEED + 8, 3000, |random, _| spelled(&numbers(&ring(random, 60, false))));
+    assert!(met[0] > 500 && met[7] > 500, "{met:?}");
 }
 
 #[test]

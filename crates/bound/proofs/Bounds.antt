@@ -82,7 +82,7 @@ module _ (S : Sheet) (graph differences : List ℕ) (limits : R.Header) (given :
     push-forced e =
         record { asked = λ Q up ok into. diffs .least (Q v .step) (omega (arith, up v l .steps)) (λ i h. push-under Q up into i (h .0) (h .1)) }
 
-    pub push-small : s ≤ 4294967294 → r < 4294967295
+    push-small : s ≤ 4294967294 → r < 4294967295
     push-small h =
         let b : r ≤ 4294967294 = diffs .least 4294967294 h (λ i k. omega (arith, summed-all given timed i (k .0) .ahead)) in omega arith
 

@@ -27,7 +27,7 @@ pub ready-end : {r : Label} (lat : ℕ) (b : Label) → r ≡ fitted (ready lat 
 ready-end lat b e = ap (λ (a : Label). a .step) e ∙ ap (λ (s : ℕ). min s 4294967295) (ready-step lat b)
 
 -- a write to the two tables of labels
-pub raised-tables : (S : Sheet) (steps levels : List ℕ) (v s l : ℕ) → v < length steps → v < length levels
+raised-tables : (S : Sheet) (steps levels : List ℕ) (v s l : ℕ) → v < length steps → v < length levels
     → Raised S (labelIn steps levels) v (label s l) (labelIn (set steps v s) (set levels v l))
 raised-tables S steps levels v s l p q =
     record {

@@ -2,7 +2,7 @@
 ghost use mathlib.Core.Path.{_≡_};
 ghost use mathlib.Core.List.{List};
 ghost use Prim.Native.Nat.{ℕ, _+_, _<_, _≤_, max};
-ghost use lib.ListN.{getD, length};
+ghost use lib.ListN.{length};
 ghost use Rattle.maps.specs.Sheet.{Sheet};
 ghost use Rattle.maps.specs.Code.{labelOf};
 ghost use Rattle.rows.specs.Table.{countIn, toIn, Falling};

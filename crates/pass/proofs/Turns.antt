@@ -1,12 +1,12 @@
 -- A node's turn, and the turns of a pass: the label that settles a node is written to the tables, or it ends after the horizon.
-use Prim.Native.Nat.{ℕ, _+_, _≤_, _<_}
+use Prim.Native.Nat.{ℕ, _+_, _<_}
 use mathlib.Core.Path.{_≡_, sym, subst}
 use mathlib.Core.Bool.{Bool, true, false}
 use mathlib.Core.List.{List}
 use native.Mathlib.Numerals.{add-one}
 use lib.ListN.{set}
 use Rattle.maps.specs.Label.{Label}
-use Rattle.maps.specs.Sheet.{Sheet, size}
+use Rattle.maps.specs.Sheet.{Sheet}
 use Rattle.rows.specs.declared.Header as R
 use Rattle.relax.specs.Settle.{Settles, Pass, Passing, onward}
 use Rattle.bound.specs.Lookup.{labelIn}

@@ -1,6 +1,6 @@
 // A pass: every node in id order gets the least label that its conditions and the present labels force. `first` has the lists of the differences
 // that are heeded.
-ghost use Prim.Native.Nat.{ℕ, _<_};
+ghost use Prim.Native.Nat.{_<_};
 ghost use Rattle.maps.specs.Code.{labelOf};
 ghost use Rattle.pass.specs.Turn.{Underway, Onward, SettledNode, Turned, Passed};
 use bound::Levels;

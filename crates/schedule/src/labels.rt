@@ -79,7 +79,16 @@ pub fn round(
     ensures { λ r. ⌜ Onward (now (graph .entry)) (now (differences .entry)) limits (now (heeded .entry)) (now (next .entry)) (now (kept .entry)) (now (steps .entry)) (now (levels .entry)) 0
         (λ S. RoundEnds S (now (graph .entry)) (now (differences .entry)) limits (now (first .entry)) (now (heeded .entry)) (now (next .entry)) (now (kept .exit)) (now (steps .entry)) (now (steps .exit)) (now (levels .exit)) r) ⌝ }
 {
-    if !pass(graph, differences, limits, heeded, next, kept, steps, levels) {
+    if !pass(
+        graph,
+        differences,
+        limits,
+        heeded,
+        next,
+        kept,
+        steps,
+        levels,
+    ) {
         return Turn::Late;
     }
     if differences_hold(differences, first, steps, limits.differences) {

@@ -1,6 +1,6 @@
 -- A node's push, and the pushes of a sweep: a node stays where it is, or gets its delay in a later step that the differences into it ask for.
 use Prim.Native.Nat.{ℕ, _+_, _≤_, _<_}
-use mathlib.Core.Path.{_≡_, refl, sym, subst, ap}
+use mathlib.Core.Path.{_≡_, refl, sym, subst}
 use mathlib.Core.Bool.{Bool, true, false}
 use mathlib.Core.List.{List}
 use native.Mathlib.Omega.{arith}
@@ -11,7 +11,7 @@ use Rattle.maps.proofs.Order.{≼-refl}
 use Rattle.maps.proofs.Planned.{delays}
 use Rattle.rows.specs.Table.{delayIn}
 use Rattle.rows.specs.declared.Header as R
-use Rattle.relax.specs.Guard.{Forced, Raised}
+use Rattle.relax.specs.Guard.{Raised}
 use Rattle.relax.specs.Sweep.{Pushes, Sweeping}
 use Rattle.relax.proofs.Closed.{Closed, well-closed}
 use Rattle.relax.proofs.Forced.{step-forced, forced-own}

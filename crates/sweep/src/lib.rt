@@ -40,7 +40,12 @@ pub fn fails(differences: &Differences, first: &[u32; 256], steps: &Steps, i: u3
 }
 
 // Whether every heeded difference holds.
-pub fn differences_hold(differences: &Differences, first: &[u32; 256], steps: &Steps, m: u32) -> bool
+pub fn differences_hold(
+    differences: &Differences,
+    first: &[u32; 256],
+    steps: &Steps,
+    m: u32,
+) -> bool
     requires { ⌜ m ≤ 1024 ⌝ }
     requires { ⌜ ((i : ℕ) → i < m → Summed (now differences) (now steps) i) ⌝ }
     ensures { λ r. ⌜ Ends r (AllHold (now (differences .entry)) (now (first .entry)) (now (steps .entry)) m) (SomeFails (now (differences .entry)) (now (first .entry)) (now (steps .entry)) m) ⌝ }
@@ -75,7 +80,13 @@ pub fn freeze(first: &[u32; 256], steps: &Steps, since: &mut Steps, heeded: &mut
 }
 
 // Heeds all differences again where those that are heeded hold.
-pub fn thaw(differences: &Differences, first: &[u32; 256], steps: &Steps, heeded: &mut [u32; 256], m: u32)
+pub fn thaw(
+    differences: &Differences,
+    first: &[u32; 256],
+    steps: &Steps,
+    heeded: &mut [u32; 256],
+    m: u32,
+)
     requires { ⌜ m ≤ 1024 ⌝ }
     requires { ⌜ ((i : ℕ) → i < m → Summed (now differences) (now steps) i) ⌝ }
     ensures { λ _. ⌜ Thawed (now (differences .entry)) (now (first .entry)) (now (steps .entry)) (now (heeded .entry)) (now (heeded .exit)) m ⌝ }
@@ -127,16 +138,7 @@ pub fn sweep(
     let mut v = limits.nodes;
     while v > 0 {
         v -= 1;
-        if !push(
-            graph,
-            differences,
-            limits,
-            first,
-            next,
-            steps,
-            levels,
-            v,
-        ) {
+        if !push(graph, differences, limits, first, next, steps, levels, v) {
             return false;
         }
     }

@@ -2,8 +2,8 @@
 use borrow.Author.Needs.{needs}
 use borrow.Author.Count.{below-none, below-more}
 use native.Mathlib.Omega.{arith}
-use Prim.Native.Nat.{ℕ, _-_, _≤_, _<_}
-use Rattle.sweep.specs.Sweep.{Fails, AllHold}
+use Prim.Native.Nat.{_-_, _≤_}
+use Rattle.sweep.specs.Sweep.{AllHold}
 use Rattle.sweep.proofs.differences_hold.Statement.{statement}
 use Rattle.sweep.proofs.differences_hold.Tie as tie
 

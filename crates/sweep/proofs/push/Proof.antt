@@ -1,6 +1,6 @@
 -- `push` meets its contract.
 use Prim.Native.Nat.{ℕ}
-use mathlib.Core.Path.{sym, subst, ap, _∙_}
+use mathlib.Core.Path.{subst, ap, _∙_}
 use native.Mathlib.Omega.{arith}
 use Rattle.maps.specs.Code.{labelOf}
 use Rattle.maps.specs.Label.{label}

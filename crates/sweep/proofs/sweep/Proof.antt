@@ -2,8 +2,8 @@
 use borrow.Author.Needs.{needs}
 use borrow.Author.Tests.{not-true, not-false}
 use native.Mathlib.Omega.{arith}
-use Prim.Native.Nat.{ℕ, _+_, _-_, _≤_}
-use mathlib.Core.Path.{_≡_, sym, subst}
+use Prim.Native.Nat.{ℕ, _-_, _≤_}
+use mathlib.Core.Path.{sym, subst}
 use Rattle.maps.specs.Sheet.{Sheet}
 use Rattle.relax.specs.Sweep.{Sweeping}
 use Rattle.relax.proofs.Closed.{well-closed}

@@ -7,7 +7,6 @@ use Rattle.bound.specs.Lookup.{Heeding}
 use Rattle.bound.proofs.Safety.{few-nodes, few-differences, graph-falls, soon-all, summed-all}
 use Rattle.hold.proofs.HoldMarks.{not-both}
 use Rattle.sweep.proofs.Freezing.{frozen-heeding, thawed-heeding}
-use borrow.Author.Needs.{needs}
 use Rattle.schedule.proofs.labels.heed.Statement.{statement}
 use Rattle.schedule.proofs.labels.heed.Tie as tie
 

@@ -2,7 +2,6 @@
 -- there can still be, whatever the horizon.
 use borrow.Author.Needs.{needs}
 use borrow.Author.Tests.{eqb-true, eqb-false, not-true, not-false}
-use native.Mathlib.Omega.{arith}
 use Prim.Native.Nat.{_-_}
 use Rattle.maps.specs.Sheet.{Sheet}
 use Rattle.relax.specs.Settle.{Pass}
