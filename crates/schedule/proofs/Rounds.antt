@@ -46,7 +46,7 @@ use Rattle.bound.specs.Going.{Given, AllKept, Timed, Going}
 use Rattle.bound.proofs.Asking.{linked-heeding, linked-heeded}
 use Rattle.bound.proofs.Safety.{node-in, latency-is, delay-is, graph-falls, difference-in, targets, kept-at, holds-at}
 use Rattle.hold.specs.Mark.{HeldIn, zero-in, operand-in, target-in}
-use Rattle.sweep.specs.Sweep.{AllHold, SomeFails, Ready, Swept}
+use Rattle.sweep.specs.Sweep.{AllHold, SomeFails, Ready, SweepEnds}
 use Rattle.schedule.specs.Round.{First, GoesOn, Heeds, Relaxed, stepsIn, stepsMost, heldMost, roundsMost}
 
 -- the first labels, one node after the other: none yet, and one more
@@ -297,7 +297,7 @@ module _ {S : Sheet} {graph differences : List ℕ} {limits : R.Header} {first h
           pass = pass-again S (labelIn steps levels) (size S) (x .settled);
         }
 
-    module _ (steps′ levels′ : List ℕ) (z : Swept S heeded steps levels steps′ levels′ true) where
+    module _ (steps′ levels′ : List ℕ) (z : SweepEnds S heeded steps levels steps′ levels′ true) where
       pub round-going : Going S graph differences limits heeded next kept steps′ levels′ × Pass S (labelIn steps′ levels′) 0
       round-going = (record { given = x .going .given; heeding = y .heeding; allKept = x .going .allKept; timed = z .0 }, z .1 .pass)
 

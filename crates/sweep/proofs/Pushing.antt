@@ -22,7 +22,7 @@ use Rattle.bound.specs.Going.{Timed}
 use Rattle.bound.proofs.Safety.{node-in, delay-is}
 use Rattle.bound.proofs.Bounds.{push-forced, push-heeds}
 use Rattle.bound.proofs.Placing.{forced-late, placed-timed, placed-raised}
-use Rattle.sweep.specs.Sweep.{Ready, Pushed}
+use Rattle.sweep.specs.Sweep.{Ready, PushEnds}
 
 module _ {S : Sheet} {graph differences : List ℕ} {limits : R.Header} {first next steps levels : List ℕ}
     (ready : Ready S graph differences limits first next steps levels) (v : ℕ) (l : v < limits .nodes) where
@@ -35,7 +35,7 @@ module _ {S : Sheet} {graph differences : List ℕ} {limits : R.Header} {first n
   -- s is what the heeded differences into v ask of its step
   module _ (s : ℕ) (diffs : Greatest (getD steps v 0) (Into differences first (limits .differences) v) (pushOf differences steps) s) where
     -- not more than its own
-    pub push-none : s ≤ getD steps v 0 → Pushed S first steps levels steps levels v true
+    pub push-none : s ≤ getD steps v 0 → PushEnds S first steps levels steps levels v true
     push-none h = (
       ready .timed,
       labelIn steps levels v,
@@ -63,7 +63,7 @@ module _ {S : Sheet} {graph differences : List ℕ} {limits : R.Header} {first n
         }
 
     pub push-placed : getD steps v 0 < s → (b : Label) → b ≡ label s (delayIn graph v) → (steps′ levels′ : List ℕ) (r : Bool)
-        → LabelPlaced graph steps levels steps′ levels′ v b (limits .horizon) r → Pushed S first steps levels steps′ levels′ v r
+        → LabelPlaced graph steps levels steps′ levels′ v b (limits .horizon) r → PushEnds S first steps levels steps′ levels′ v r
     push-placed h b e steps′ levels′ r = go r
       where
         p : Pushes S (Heeded first) (labelIn steps levels) v b
@@ -74,7 +74,7 @@ module _ {S : Sheet} {graph differences : List ℕ} {limits : R.Header} {first n
         Held : List ℕ → List ℕ → Type 0
         Held x y = Timed S x y × (a : Label) × Pushes S (Heeded first) (labelIn steps levels) v a × Raised S (labelIn steps levels) v a (labelIn x y)
 
-        go : (r : Bool) → LabelPlaced graph steps levels steps′ levels′ v b (limits .horizon) r → Pushed S first steps levels steps′ levels′ v r
+        go : (r : Bool) → LabelPlaced graph steps levels steps′ levels′ v b (limits .horizon) r → PushEnds S first steps levels steps′ levels′ v r
         go true w =
             subst (λ (x : List ℕ). Held x levels′) (sym (w .1))
             (subst (Held (set steps v (b .step))) (sym (w .2))
@@ -89,7 +89,7 @@ module _ {S : Sheet} {graph differences : List ℕ} {limits : R.Header} {first n
   swept-ready = record { given = from .given; heeding = from .heeding; timed = timed; pass = w .pass }
 
   -- one node more
-  pub sweep-turn : (v : ℕ) → k ≡ v + 1 → v < limits .nodes → (steps′ levels′ : List ℕ) → Pushed S first steps levels steps′ levels′ v true
+  pub sweep-turn : (v : ℕ) → k ≡ v + 1 → v < limits .nodes → (steps′ levels′ : List ℕ) → PushEnds S first steps levels steps′ levels′ v true
       → Timed S steps′ levels′ × Sweeping S (Heeded first) (labelIn steps₀ levels₀) v (labelIn steps′ levels′)
   sweep-turn v e l steps′ levels′ p = (
     p .0,

@@ -50,12 +50,12 @@ pub record Ready (S : Sheet) (graph differences : List ℕ) (limits : R.Header) 
   pub pass : Pass S (labelIn steps levels) 0
 
 -- v has a label that pushes it, or nothing is legal within the horizon
-abbrev pub Pushed : (S : Sheet) (first steps levels steps' levels' : List ℕ) (v : ℕ) → Bool → Type 0
-Pushed S first steps levels steps' levels' v r =
+abbrev pub PushEnds : (S : Sheet) (first steps levels steps' levels' : List ℕ) (v : ℕ) → Bool → Type 0
+PushEnds S first steps levels steps' levels' v r =
     Ends r (Timed S steps' levels'
     × (b : Label) × Pushes S (Heeded first) (labelIn steps levels) v b × Raised S (labelIn steps levels) v b (labelIn steps' levels')) (NoneLegal S)
 
 -- every node was pushed in turn, or nothing is legal within the horizon
-abbrev pub Swept : (S : Sheet) (first steps levels steps' levels' : List ℕ) → Bool → Type 0
-Swept S first steps levels steps' levels' r =
+abbrev pub SweepEnds : (S : Sheet) (first steps levels steps' levels' : List ℕ) → Bool → Type 0
+SweepEnds S first steps levels steps' levels' r =
     Ends r (Timed S steps' levels' × Sweeping S (Heeded first) (labelIn steps levels) 0 (labelIn steps' levels')) (NoneLegal S)

@@ -5,7 +5,7 @@ ghost use Prim.Native.Nat.{ℕ, _<_, _≤_};
 ghost use Rattle.maps.specs.Sheet.{Sheet};
 ghost use Rattle.rows.specs.Cells.{Ends};
 ghost use Rattle.bound.specs.Bound.{Summed};
-ghost use Rattle.sweep.specs.Sweep.{Fails, AllHold, SomeFails, Frozen, Thawed, Ready, Pushed, Swept};
+ghost use Rattle.sweep.specs.Sweep.{Fails, AllHold, SomeFails, Frozen, Thawed, Ready, PushEnds, SweepEnds};
 use bound::Levels;
 use bound::Steps;
 use bound::after_differences;
@@ -110,7 +110,7 @@ pub fn push(
     requires { ⌜ ((S : Sheet) × Ready S (now graph) (now differences) limits (now first) (now next) (now steps) (now levels)) ⌝ }
     requires { ⌜ v < limits .nodes ⌝ }
     ensures { λ r. ⌜ ((S : Sheet) → Ready S (now (graph .entry)) (now (differences .entry)) limits (now (first .entry)) (now (next .entry)) (now (steps .entry)) (now (levels .entry)) → v < limits .nodes
-        → Pushed S (now (first .entry)) (now (steps .entry)) (now (levels .entry)) (now (steps .exit)) (now (levels .exit)) v r) ⌝ }
+        → PushEnds S (now (first .entry)) (now (steps .entry)) (now (levels .entry)) (now (steps .exit)) (now (levels .exit)) v r) ⌝ }
 {
     let own = step_of(steps, v);
     let asked = after_differences(differences, first, next, steps, limits.differences, v, own);
@@ -133,7 +133,7 @@ pub fn sweep(
 ) -> bool
     requires { ⌜ ((S : Sheet) × Ready S (now graph) (now differences) limits (now first) (now next) (now steps) (now levels)) ⌝ }
     ensures { λ r. ⌜ ((S : Sheet) → Ready S (now (graph .entry)) (now (differences .entry)) limits (now (first .entry)) (now (next .entry)) (now (steps .entry)) (now (levels .entry))
-        → Swept S (now (first .entry)) (now (steps .entry)) (now (levels .entry)) (now (steps .exit)) (now (levels .exit)) r) ⌝ }
+        → SweepEnds S (now (first .entry)) (now (steps .entry)) (now (levels .entry)) (now (steps .exit)) (now (levels .exit)) r) ⌝ }
 {
     let mut v = limits.nodes;
     while v > 0 {

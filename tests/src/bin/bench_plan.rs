@@ -1,4 +1,4 @@
-//! Times the planning call on sheets of 16 to 256 nodes of several kinds and, where a file is named, on the sheet in it. With the feature
+//! Times the planning call on sheets of 16 to 256 nodes of several kinds or, where files are named, on the sheets in them. With the feature
 //! `before` another version of the library stands beside it, with `sketch` the unproved sketch.
 #![cfg_attr(not(planner), allow(dead_code, unused_mut))]
 use maps_tests::made::{numbers, spelled};
@@ -193,9 +193,12 @@ fn main() {
         println!("the planning library is not built");
         return;
     }
-    if let Some(path) = std::env::args().nth(1) {
-        let bytes = std::fs::read(&path).expect("the file that is named");
+    let files: Vec<String> = std::env::args().skip(1).collect();
+    for path in &files {
+        let bytes = std::fs::read(path).expect("the file that is named");
         row(path.rsplit('/').next().unwrap(), &[bytes]);
+    }
+    if !files.is_empty() {
         return;
     }
     println!("{:<34}{:>4} {:>4} {:>4}{:>13} {:>9} {:>9}", "sheets", "0", "6", "7", "", "mean", "worst");
