@@ -46,7 +46,7 @@ use Rattle.bound.specs.Going.{Given, AllKept, Timed, Going}
 use Rattle.bound.proofs.Asking.{linked-heeding, linked-heeded}
 use Rattle.bound.proofs.Safety.{node-in, latency-is, delay-is, graph-falls, difference-in, targets, kept-at, holds-at}
 use Rattle.hold.specs.Mark.{HeldIn, zero-in, operand-in, target-in}
-use Rattle.sweep.specs.Sweep.{AllHold, SomeFails, Ready, SweepEnds}
+use Rattle.sweep.specs.Sweep.{AllHold, SomeFails, Sweepable, SweepEnds}
 use Rattle.schedule.specs.Round.{First, GoesOn, Heeds, Relaxed, stepsIn, stepsMost, heldMost, roundsMost}
 
 -- the first labels, one node after the other: none yet, and one more
@@ -288,8 +288,8 @@ module _ {S : Sheet} {graph differences : List ℕ} {limits : R.Header} {first h
   round-floats = floats-none (x .going .given) steps levels (x .settled)
 
   module _ {heeded : List ℕ} {test : Bool} (y : Heeds graph differences limits next steps heeded test) where
-    pub round-ready : Ready S graph differences limits heeded next steps levels
-    round-ready =
+    pub round-sweepable : Sweepable S graph differences limits heeded next steps levels
+    round-sweepable =
         record {
           given = x .going .given;
           heeding = y .heeding;

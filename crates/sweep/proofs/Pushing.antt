@@ -22,30 +22,30 @@ use Rattle.bound.specs.Going.{Timed}
 use Rattle.bound.proofs.Safety.{node-in, delay-is}
 use Rattle.bound.proofs.Bounds.{push-forced, push-heeds}
 use Rattle.bound.proofs.Placing.{forced-late, placed-timed, placed-raised}
-use Rattle.sweep.specs.Sweep.{Ready, PushEnds}
+use Rattle.sweep.specs.Sweep.{Sweepable, PushEnds}
 
 module _ {S : Sheet} {graph differences : List ℕ} {limits : R.Header} {first next steps levels : List ℕ}
-    (ready : Ready S graph differences limits first next steps levels) (v : ℕ) (l : v < limits .nodes) where
+    (on : Sweepable S graph differences limits first next steps levels) (v : ℕ) (l : v < limits .nodes) where
   inside : v < size S
-  inside = node-in (ready .given) v l .0
+  inside = node-in (on .given) v l .0
 
   closed : Closed S
-  closed = well-closed S (ready .given .well)
+  closed = well-closed S (on .given .well)
 
   -- s is what the heeded differences into v ask of its step
   module _ (s : ℕ) (diffs : Greatest (getD steps v 0) (Into differences first (limits .differences) v) (pushOf differences steps) s) where
     -- not more than its own
     pub push-none : s ≤ getD steps v 0 → PushEnds S first steps levels steps levels v true
     push-none h = (
-      ready .timed,
+      on .timed,
       labelIn steps levels v,
       record {
         up = ≼-refl;
         forced = forced-own S closed (labelIn steps levels) v inside;
-        low = ready .pass .low v inside;
-        high = ready .pass .high v inside;
+        low = on .pass .low v inside;
+        high = on .pass .high v inside;
         into = λ q d m e.
-            omega (arith, push-heeds S graph differences limits (ready .given) steps levels (ready .timed) v inside first (getD steps v 0) s diffs q d m e);
+            omega (arith, push-heeds S graph differences limits (on .given) steps levels (on .timed) v inside first (getD steps v 0) s diffs q d m e);
       },
       record { here = refl; there = λ u k n. refl },
     )
@@ -56,10 +56,10 @@ module _ {S : Sheet} {graph differences : List ℕ} {limits : R.Header} {first n
         record {
           up = record { steps = omega arith; levels = λ e. absurd (omega arith) };
           forced = step-forced S closed (labelIn steps levels) v inside s
-              (push-forced S graph differences limits (ready .given) steps levels (ready .timed) v inside first (getD steps v 0) s diffs refl);
+              (push-forced S graph differences limits (on .given) steps levels (on .timed) v inside first (getD steps v 0) s diffs refl);
           low = omega arith;
-          high = delays S (ready .given .well) v;
-          into = push-heeds S graph differences limits (ready .given) steps levels (ready .timed) v inside first (getD steps v 0) s diffs;
+          high = delays S (on .given .well) v;
+          into = push-heeds S graph differences limits (on .given) steps levels (on .timed) v inside first (getD steps v 0) s diffs;
         }
 
     pub push-placed : getD steps v 0 < s → (b : Label) → b ≡ label s (delayIn graph v) → (steps′ levels′ : List ℕ) (r : Bool)
@@ -69,7 +69,7 @@ module _ {S : Sheet} {graph differences : List ℕ} {limits : R.Header} {first n
         p : Pushes S (Heeded first) (labelIn steps levels) v b
         p =
             subst (Pushes S (Heeded first) (labelIn steps levels) v) (sym e)
-            (subst (λ (d : ℕ). Pushes S (Heeded first) (labelIn steps levels) v (label s d)) (sym (delay-is (ready .given) v l)) (pushes h))
+            (subst (λ (d : ℕ). Pushes S (Heeded first) (labelIn steps levels) v (label s d)) (sym (delay-is (on .given) v l)) (pushes h))
 
         Held : List ℕ → List ℕ → Type 0
         Held x y = Timed S x y × (a : Label) × Pushes S (Heeded first) (labelIn steps levels) v a × Raised S (labelIn steps levels) v a (labelIn x y)
@@ -78,15 +78,15 @@ module _ {S : Sheet} {graph differences : List ℕ} {limits : R.Header} {first n
         go true w =
             subst (λ (x : List ℕ). Held x levels′) (sym (w .1))
             (subst (Held (set steps v (b .step))) (sym (w .2))
-            (placed-timed (ready .given) steps levels v l b (ready .timed) (w .0), b, p, placed-raised (ready .given) steps levels v l b (ready .timed)))
-        go false w = forced-late (ready .given) steps levels v l b (ready .pass .guarded) (p .forced) (w .0)
+            (placed-timed (on .given) steps levels v l b (on .timed) (w .0), b, p, placed-raised (on .given) steps levels v l b (on .timed)))
+        go false w = forced-late (on .given) steps levels v l b (on .pass .guarded) (p .forced) (w .0)
 
 -- in the midst of a sweep from the labels L on
 module _ {S : Sheet} {graph differences : List ℕ} {limits : R.Header} {first next steps₀ levels₀ steps levels : List ℕ}
-    (from : Ready S graph differences limits first next steps₀ levels₀) (k : ℕ) (timed : Timed S steps levels)
+    (from : Sweepable S graph differences limits first next steps₀ levels₀) (k : ℕ) (timed : Timed S steps levels)
     (w : Sweeping S (Heeded first) (labelIn steps₀ levels₀) k (labelIn steps levels)) where
-  pub swept-ready : Ready S graph differences limits first next steps levels
-  swept-ready = record { given = from .given; heeding = from .heeding; timed = timed; pass = w .pass }
+  pub swept-sweepable : Sweepable S graph differences limits first next steps levels
+  swept-sweepable = record { given = from .given; heeding = from .heeding; timed = timed; pass = w .pass }
 
   -- one node more
   pub sweep-turn : (v : ℕ) → k ≡ v + 1 → v < limits .nodes → (steps′ levels′ : List ℕ) → PushEnds S first steps levels steps′ levels′ v true

@@ -43,7 +43,7 @@ Thawed differences first steps heeded heeded' m =
     (AllHold differences heeded steps m × (heeded' ≡ first)) ⊎ (SomeFails differences heeded steps m × (heeded' ≡ heeded))
 
 -- labels of the sheet of these tables that a sweep can begin with
-pub record Ready (S : Sheet) (graph differences : List ℕ) (limits : R.Header) (first next steps levels : List ℕ) : Type 0 where
+pub record Sweepable (S : Sheet) (graph differences : List ℕ) (limits : R.Header) (first next steps levels : List ℕ) : Type 0 where
   pub given : Given S graph differences limits
   pub heeding : Heeding differences (limits .differences) first next
   pub timed : Timed S steps levels

@@ -5,7 +5,7 @@ ghost use Prim.Native.Nat.{ℕ, _<_, _≤_};
 ghost use Rattle.maps.specs.Sheet.{Sheet};
 ghost use Rattle.rows.specs.Cells.{Ends};
 ghost use Rattle.bound.specs.Bound.{Summed};
-ghost use Rattle.sweep.specs.Sweep.{Fails, AllHold, SomeFails, Frozen, Thawed, Ready, PushEnds, SweepEnds};
+ghost use Rattle.sweep.specs.Sweep.{Fails, AllHold, SomeFails, Frozen, Thawed, Sweepable, PushEnds, SweepEnds};
 use bound::Levels;
 use bound::Steps;
 use bound::after_differences;
@@ -107,9 +107,9 @@ pub fn push(
     levels: &mut Levels,
     v: u32,
 ) -> bool
-    requires { ⌜ ((S : Sheet) × Ready S (now graph) (now differences) limits (now first) (now next) (now steps) (now levels)) ⌝ }
+    requires { ⌜ ((S : Sheet) × Sweepable S (now graph) (now differences) limits (now first) (now next) (now steps) (now levels)) ⌝ }
     requires { ⌜ v < limits .nodes ⌝ }
-    ensures { λ r. ⌜ ((S : Sheet) → Ready S (now (graph .entry)) (now (differences .entry)) limits (now (first .entry)) (now (next .entry)) (now (steps .entry)) (now (levels .entry)) → v < limits .nodes
+    ensures { λ r. ⌜ ((S : Sheet) → Sweepable S (now (graph .entry)) (now (differences .entry)) limits (now (first .entry)) (now (next .entry)) (now (steps .entry)) (now (levels .entry)) → v < limits .nodes
         → PushEnds S (now (first .entry)) (now (steps .entry)) (now (levels .entry)) (now (steps .exit)) (now (levels .exit)) v r) ⌝ }
 {
     let own = step_of(steps, v);
@@ -131,8 +131,8 @@ pub fn sweep(
     steps: &mut Steps,
     levels: &mut Levels,
 ) -> bool
-    requires { ⌜ ((S : Sheet) × Ready S (now graph) (now differences) limits (now first) (now next) (now steps) (now levels)) ⌝ }
-    ensures { λ r. ⌜ ((S : Sheet) → Ready S (now (graph .entry)) (now (differences .entry)) limits (now (first .entry)) (now (next .entry)) (now (steps .entry)) (now (levels .entry))
+    requires { ⌜ ((S : Sheet) × Sweepable S (now graph) (now differences) limits (now first) (now next) (now steps) (now levels)) ⌝ }
+    ensures { λ r. ⌜ ((S : Sheet) → Sweepable S (now (graph .entry)) (now (differences .entry)) limits (now (first .entry)) (now (next .entry)) (now (steps .entry)) (now (levels .entry))
         → SweepEnds S (now (first .entry)) (now (steps .entry)) (now (levels .entry)) (now (steps .exit)) (now (levels .exit)) r) ⌝ }
 {
     let mut v = limits.nodes;

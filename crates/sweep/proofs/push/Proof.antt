@@ -18,13 +18,13 @@ after-differences-requires c κs =
     ((node-in (r .given) (s .args .v) (s .pre .1) .1, few-differences (r .given)), (r .heeding, summed-all (r .given) (r .timed)))
 
 returns : tie.Need-returns
-returns c S ready l =
+returns c S on l =
     let d = c .before .before .before in
     let o = d .before .before in
     let s = o .before .before in
     let a = s .args in
     let g = subst (λ (n : ℕ). Greatest n (Into (a .differences .now) (a .first .now) (a .limits .differences) (a .v)) (pushOf (a .differences .now) (a .steps .now)) (d .after-differences .result .0)) (o .step-of .ensures) (d .after-differences .ensures) in
-    push-none ready (a .v) l (d .after-differences .result .0) g (omega (arith, c .if1 .taken, o .step-of .ensures))
+    push-none on (a .v) l (d .after-differences .result .0) g (omega (arith, c .if1 .taken, o .step-of .ensures))
 
 place-label-requires : tie.Need-place-label-requires
 place-label-requires c κs =
@@ -32,7 +32,7 @@ place-label-requires c κs =
     node-in (s .pre .0 .1 .given) (s .args .v) (s .pre .1) .1
 
 returns-2 : tie.Need-returns-2
-returns-2 c S ready l =
+returns-2 c S on l =
     let t = c .before .before .before in
     let n = t .before in
     let e = n .before in
@@ -42,7 +42,7 @@ returns-2 c S ready l =
     let a = s .args in
     let g = subst (λ (n : ℕ). Greatest n (Into (a .differences .now) (a .first .now) (a .limits .differences) (a .v)) (pushOf (a .differences .now) (a .steps .now)) (d .after-differences .result .0)) (o .step-of .ensures) (d .after-differences .ensures) in
     let q = c .place-label in
-    push-placed ready (a .v) l (d .after-differences .result .0) g (omega (arith, e .if1 .left, o .step-of .ensures)) (labelOf (t .at .result))
+    push-placed on (a .v) l (d .after-differences .result .0) g (omega (arith, e .if1 .left, o .step-of .ensures)) (labelOf (t .at .result))
     (t .at .ensures ∙ ap (label (d .after-differences .result .0)) (n .delay-in .ensures)) (q .last .1 .0) (q .last .1 .1 .0) (q .result) (q .ensures)
 
 pub push-spec : {M : Type 1} → statement M

@@ -10,15 +10,15 @@ use Rattle.relax.proofs.Closed.{well-closed}
 use Rattle.relax.proofs.Sweeps.{sweep-none}
 use Rattle.bound.specs.Lookup.{labelIn, Heeded}
 use Rattle.bound.specs.Going.{Timed}
-use Rattle.sweep.specs.Sweep.{Ready}
-use Rattle.sweep.proofs.Pushing.{swept-ready, sweep-turn}
+use Rattle.sweep.specs.Sweep.{Sweepable}
+use Rattle.sweep.proofs.Pushing.{swept-sweepable, sweep-turn}
 use Rattle.sweep.proofs.sweep.Statement.{statement}
 use Rattle.sweep.proofs.sweep.Tie as tie
 
 abbrev Inv-loop : tie.InvT-loop
 Inv-loop graph differences limits first next steps₀ levels₀ v₀ steps levels v =
     (v ≤ limits .nodes)
-    × ((S : Sheet) → Ready S graph differences limits first next steps₀ levels₀
+    × ((S : Sheet) → Sweepable S graph differences limits first next steps₀ levels₀
     → Timed S steps levels × Sweeping S (Heeded first) (labelIn steps₀ levels₀) v (labelIn steps levels))
 
 abbrev μ-loop : tie.MeasureT-loop
@@ -29,9 +29,9 @@ loop-holds c =
     let a = c .args in
     let L = labelIn (a .steps .now) (a .levels .now) in (
       omega arith,
-      λ S ready. (
-        ready .timed,
-        subst (λ (k : ℕ). Sweeping S (Heeded (a .first .now)) L k L) (sym (ready .given .nodes)) (sweep-none S (well-closed S (ready .given .well)) (Heeded (a .first .now)) L (ready .pass)),
+      λ S on. (
+        on .timed,
+        subst (λ (k : ℕ). Sweeping S (Heeded (a .first .now)) L k L) (sym (on .given .nodes)) (sweep-none S (well-closed S (on .given .well)) (Heeded (a .first .now)) L (on .pass)),
       ),
     )
 
@@ -43,17 +43,17 @@ push-requires c κs =
     let w = l .inv .1 (p .0) (p .1) in
     let t = i .loop-test .taken in
     let h = l .inv .0 in
-    ((p .0, swept-ready (p .1) (l .v) (w .0) (w .1)), omega arith)
+    ((p .0, swept-sweepable (p .1) (l .v) (w .0) (w .1)), omega arith)
 
 returns : tie.Need-returns Inv-loop μ-loop
-returns c S ready =
+returns c S on =
     let e = c .before .push in
     let i = c .before .before .before .before in
     let l = i .before .loop in
-    let w = l .inv .1 S ready in
+    let w = l .inv .1 S on in
     let t = i .loop-test .taken in
     let h = l .inv .0 in
-    rw (not-true (e .result) (c .if1 .taken)) at (e .ensures S (swept-ready ready (l .v) (w .0) (w .1)) (omega arith))
+    rw (not-true (e .result) (c .if1 .taken)) at (e .ensures S (swept-sweepable on (l .v) (w .0) (w .1)) (omega arith))
 
 loop-again : tie.Need-loop-again Inv-loop μ-loop
 loop-again c =
@@ -63,17 +63,17 @@ loop-again c =
     let t = i .loop-test .taken in
     let h = l .inv .0 in (
       omega arith,
-      λ S ready.
-          let w = l .inv .1 S ready in
-          let p = rw (not-false (e .result) (c .if1 .left)) at (e .ensures S (swept-ready ready (l .v) (w .0) (w .1)) (omega arith)) in
-          sweep-turn ready (l .v) (w .0) (w .1) (l .v - 1) (omega arith) (omega arith) _ _ p,
+      λ S on.
+          let w = l .inv .1 S on in
+          let p = rw (not-false (e .result) (c .if1 .left)) at (e .ensures S (swept-sweepable on (l .v) (w .0) (w .1)) (omega arith)) in
+          sweep-turn on (l .v) (w .0) (w .1) (l .v - 1) (omega arith) (omega arith) _ _ p,
     )
 
 returns-2 : tie.Need-returns-2 Inv-loop μ-loop
-returns-2 c S ready =
+returns-2 c S on =
     let l = c .before .loop in
     let a = c .before .before .args in
-    let w = l .inv .1 S ready in
+    let w = l .inv .1 S on in
     let t = c .loop-test .left in
     (w .0, subst (λ (k : ℕ). Sweeping S (Heeded (a .first .now)) (labelIn (a .steps .now) (a .levels .now)) k (labelIn (l .steps) (l .levels))) (omega arith) (w .1))
 

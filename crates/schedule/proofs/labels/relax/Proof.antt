@@ -8,7 +8,7 @@ use Rattle.relax.specs.Settle.{Pass}
 use Rattle.bound.specs.Lookup.{labelIn}
 use Rattle.bound.specs.Going.{Going}
 use Rattle.schedule.specs.Round.{stepsIn, roundsMost}
-use Rattle.schedule.proofs.Rounds.{Few, few-left, few-none, round-floats, round-ready, round-going, round-more, round-tested}
+use Rattle.schedule.proofs.Rounds.{Few, few-left, few-none, round-floats, round-sweepable, round-going, round-more, round-tested}
 use Rattle.schedule.proofs.labels.relax.Statement.{statement}
 use Rattle.schedule.proofs.labels.relax.Tie as tie
 
@@ -78,7 +78,7 @@ sweep-requires c κs =
     let i = l .loop .inv .0 (p .1 .0) (p .1 .1) (p .1 .2) in
     let x = rw (t .enum-told3 .given .1) at (e .round .ensures (p .1 .0) (i .0) (i .1)) in
     let y = rw (not-false (h .heed .result) (q .if1 .left)) at (h .heed .ensures) in
-    (p .1 .0, round-ready x y)
+    (p .1 .0, round-sweepable x y)
 
 returns-4 : tie.Need-returns-4 Inv-loop μ-loop
 returns-4 c S going p =
@@ -90,7 +90,7 @@ returns-4 c S going p =
     let i = e .before .before .before .before .before .loop .inv .0 S going p in
     let x = rw (t .enum-told3 .given .1) at (e .round .ensures S (i .0) (i .1)) in
     let y = rw (not-false (h .heed .result) (q .if1 .left)) at (h .heed .ensures) in
-    rw (not-true (w .sweep .result) (c .if2 .taken)) at (w .sweep .ensures S (round-ready x y))
+    rw (not-true (w .sweep .result) (c .if2 .taken)) at (w .sweep .ensures S (round-sweepable x y))
 
 mul-next-test : tie.Need-mul-next-test Inv-loop μ-loop
 mul-next-test c =
@@ -105,7 +105,7 @@ mul-next-test c =
     let i = l .loop .inv .0 (p .1 .0) (p .1 .1) (p .1 .2) in
     let x = rw (t .enum-told3 .given .1) at (e .round .ensures (p .1 .0) (i .0) (i .1)) in
     let y = rw (not-false (h .heed .result) (q .if1 .left)) at (h .heed .ensures) in
-    let v = rw (not-false (w .sweep .result) (z .if2 .left)) at (w .sweep .ensures (p .1 .0) (round-ready x y)) in
+    let v = rw (not-false (w .sweep .result) (z .if2 .left)) at (w .sweep .ensures (p .1 .0) (round-sweepable x y)) in
     let f = round-tested x y _ _ v (l .loop .rounds) (l .loop .next-test) (l .loop .inv .1) (eqb-true _ _ (c .if3 .taken)) (c .if3 .taken) .fits in
     search needs
 
@@ -125,11 +125,11 @@ loop-again c =
     let i = l .loop .inv .0 (p .1 .0) (p .1 .1) (p .1 .2) in
     let x = rw (t .enum-told3 .given .1) at (e .round .ensures (p .1 .0) (i .0) (i .1)) in
     let y = rw (not-false (h .heed .result) (q .if1 .left)) at (h .heed .ensures) in
-    let v = rw (not-false (w .sweep .result) (z .if2 .left)) at (w .sweep .ensures (p .1 .0) (round-ready x y)) in (
+    let v = rw (not-false (w .sweep .result) (z .if2 .left)) at (w .sweep .ensures (p .1 .0) (round-sweepable x y)) in (
       λ S going r.
           let j = l .loop .inv .0 S going r in
           let a = rw (t .enum-told3 .given .1) at (e .round .ensures S (j .0) (j .1)) in
-          round-going a y _ _ (rw (not-false (w .sweep .result) (z .if2 .left)) at (w .sweep .ensures S (round-ready a y))),
+          round-going a y _ _ (rw (not-false (w .sweep .result) (z .if2 .left)) at (w .sweep .ensures S (round-sweepable a y))),
       round-tested x y _ _ v (l .loop .rounds) (l .loop .next-test) (l .loop .inv .1) (eqb-true _ _ (c .if3 .taken)) (c .if3 .taken),
     )
 
@@ -149,11 +149,11 @@ loop-again-2 c =
     let i = l .loop .inv .0 (p .1 .0) (p .1 .1) (p .1 .2) in
     let x = rw (t .enum-told3 .given .1) at (e .round .ensures (p .1 .0) (i .0) (i .1)) in
     let y = rw (not-false (h .heed .result) (q .if1 .left)) at (h .heed .ensures) in
-    let v = rw (not-false (w .sweep .result) (z .if2 .left)) at (w .sweep .ensures (p .1 .0) (round-ready x y)) in (
+    let v = rw (not-false (w .sweep .result) (z .if2 .left)) at (w .sweep .ensures (p .1 .0) (round-sweepable x y)) in (
       λ S going r.
           let j = l .loop .inv .0 S going r in
           let a = rw (t .enum-told3 .given .1) at (e .round .ensures S (j .0) (j .1)) in
-          round-going a y _ _ (rw (not-false (w .sweep .result) (z .if2 .left)) at (w .sweep .ensures S (round-ready a y))),
+          round-going a y _ _ (rw (not-false (w .sweep .result) (z .if2 .left)) at (w .sweep .ensures S (round-sweepable a y))),
       round-more x y _ _ v (l .loop .rounds) (l .loop .next-test) (l .loop .inv .1) (eqb-false _ _ (c .if3 .left)),
     )
 
