@@ -255,6 +255,17 @@ fn large_made_up_sheets() {
     assert!(met[0] > 100 && met[6] > 20 && met[7] > 20, "{met:?}");
 }
 
+/// Sheets that were made to be slow: a ring whose ids run in zigzag over operands that it pushes itself, and tables with costly cuts. Nothing is
+/// legal on them.
+#[test]
+fn slow_sheets() {
+    for name in ["zigzag", "costly-cuts"] {
+        let path = format!("{}/sheets/{name}.sheet", env!("CARGO_MANIFEST_DIR"));
+        let sheet = maps_tests::reader::read(&std::fs::read(path).unwrap()).unwrap();
+        assert_eq!(large(name, &sheet), 7);
+    }
+}
+
 /// The hall sheet with other limits and differences.
 fn hall(leaves: u32, top: u32, horizon: u32, differences: &[(u32, u32, i32)]) -> Vec<u8> {
     let mut nodes = vec![input(); 3];
