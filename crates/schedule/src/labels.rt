@@ -3,6 +3,7 @@
 ghost use mathlib.Core.Path.{_≡_};
 ghost use mathlib.Core.List.{List, []};
 ghost use Prim.Native.Nat.{ℕ, _+_, _<_, _≤_};
+ghost use lib.Dec.{eqb};
 ghost use Rattle.maps.specs.Sheet.{Sheet, size};
 ghost use Rattle.maps.specs.Legal.{latencyOfAll};
 ghost use Rattle.maps.specs.Least.{at, leastLabels, late, least};
@@ -40,6 +41,31 @@ pub enum Turn {
     Least,
     Late,
     Again,
+}
+
+// What is looked at after a round: whether nodes float, and which have moved since the last look.
+pub struct Look {
+    pub test: bool,
+    pub freeze: bool,
+}
+
+// The rounds after which nodes are frozen. Fewer settle most sheets, and there freezing only adds to them.
+const FREEZE_FROM: u32 = 64;
+
+// The look after so many rounds: a test where it is due.
+pub fn look_after(rounds: u32, due: u32) -> Look
+    ensures { λ r. ⌜ r .test ≡ eqb rounds due ⌝ }
+{
+    if rounds == due {
+        return Look {
+            test: true,
+            freeze: rounds >= FREEZE_FROM,
+        };
+    }
+    Look {
+        test: false,
+        freeze: false,
+    }
 }
 
 // The first labels: the earliest, with each node's delay as level. False where a latency alone is past the horizon.
@@ -97,8 +123,8 @@ pub fn round(
     Turn::Again
 }
 
-// Which differences are heeded next. Where `test` is set, whether no node floats, and if so only the differences into nodes that have moved since
-// the last test are heeded; where these hold, all are.
+// Which differences are heeded next; false where a test finds that a node floats. After a freeze these are the differences into nodes that have
+// moved since the freeze before; where they hold, all are.
 pub fn heed(
     graph: &Graph,
     differences: &Differences,
@@ -108,15 +134,15 @@ pub fn heed(
     steps: &Steps,
     since: &mut Steps,
     heeded: &mut [u32; 256],
-    test: bool,
+    look: Look,
 ) -> bool
     requires { ⌜ ((S : Sheet) × (levels : List ℕ) × Given S (now graph) (now differences) limits × Timed S (now steps) levels) ⌝ }
     requires { ⌜ Linked (now differences) (limits .differences) (now first) (now next) ⌝ }
     requires { ⌜ Heeding (now differences) (limits .differences) (now heeded) (now next) ⌝ }
     requires { ⌜ SomeFails (now differences) (now first) (now steps) (limits .differences) ⌝ }
-    ensures { λ r. ⌜ HeedEnds (now (graph .entry)) (now (differences .entry)) limits (now (next .entry)) (now (steps .entry)) (now (heeded .exit)) test r ⌝ }
+    ensures { λ r. ⌜ HeedEnds (now (graph .entry)) (now (differences .entry)) limits (now (next .entry)) (now (steps .entry)) (now (heeded .exit)) (look .test) r ⌝ }
 {
-    if test {
+    if look.test {
         if floats(
             graph,
             differences,
@@ -128,6 +154,8 @@ pub fn heed(
         ) {
             return false;
         }
+    }
+    if look.freeze {
         freeze(first, steps, since, heeded, limits.nodes);
     }
     thaw(differences, first, steps, heeded, limits.differences);
@@ -155,7 +183,7 @@ pub fn relax(
     let mut next_test: u32 = 2;
     loop {
         rounds += 1;
-        let test = rounds == next_test;
+        let look = look_after(rounds, next_test);
         let turn = round(
             graph,
             differences,
@@ -181,14 +209,14 @@ pub fn relax(
             steps,
             &mut since,
             &mut heeded,
-            test,
+            look,
         ) {
             return false;
         }
         if !sweep(graph, differences, limits, &heeded, next, steps, levels) {
             return false;
         }
-        if test {
+        if look.test {
             next_test *= 2;
         }
     }

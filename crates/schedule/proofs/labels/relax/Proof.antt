@@ -3,6 +3,7 @@
 use borrow.Author.Needs.{needs}
 use borrow.Author.Tests.{eqb-true, eqb-false, not-true, not-false}
 use Prim.Native.Nat.{_-_}
+use mathlib.Core.Path.{sym, _∙_}
 use Rattle.maps.specs.Sheet.{Sheet}
 use Rattle.relax.specs.Settle.{Pass}
 use Rattle.bound.specs.Lookup.{labelIn}
@@ -30,7 +31,7 @@ add-rounds c = let f = c .loop .inv .1 .early in let t = c .loop .inv .1 .fits i
 
 round-requires : tie.Need-round-requires Inv-loop μ-loop
 round-requires c κs =
-    let l = c .before .before .before .before in
+    let l = c .before .before .before .before .before in
     let p = l .before .before .before .pre in
     let i = l .loop .inv .0 (p .1 .0) (p .1 .1) (p .1 .2) in
     (p .0, (p .1 .0, i .0, i .1))
@@ -38,20 +39,21 @@ round-requires c κs =
 returns : tie.Need-returns Inv-loop μ-loop
 returns c S going p =
     let e = c .before .before in
-    let i = e .before .before .before .before .before .loop .inv .0 S going p in
+    let i = e .before .before .before .before .before .before .loop .inv .0 S going p in
     rw (c .enum-told .given .1) at (e .round .ensures S (i .0) (i .1))
 
 returns-2 : tie.Need-returns-2 Inv-loop μ-loop
 returns-2 c S going p =
     let e = c .before .before in
-    let i = e .before .before .before .before .before .loop .inv .0 S going p in
+    let i = e .before .before .before .before .before .before .loop .inv .0 S going p in
     rw (c .enum-told2 .given .1) at (e .round .ensures S (i .0) (i .1))
 
 heed-requires : tie.Need-heed-requires Inv-loop μ-loop
 heed-requires c κs =
     let t = c .before .before .before in
     let e = t .before .before in
-    let l = e .before .before .before .before .before in
+    let k = e .before .before .before .before .before in
+    let l = k .before in
     let p = l .before .before .before .pre in
     let i = l .loop .inv .0 (p .1 .0) (p .1 .1) (p .1 .2) in
     let x = rw (t .enum-told3 .given .1) at (e .round .ensures (p .1 .0) (i .0) (i .1)) in
@@ -62,7 +64,7 @@ returns-3 c S going p =
     let h = c .before in
     let t = h .before .before .before .before in
     let e = t .before .before in
-    let i = e .before .before .before .before .before .loop .inv .0 S going p in
+    let i = e .before .before .before .before .before .before .loop .inv .0 S going p in
     let x = rw (t .enum-told3 .given .1) at (e .round .ensures S (i .0) (i .1)) in
     let y = rw (not-true (h .heed .result) (c .if1 .taken)) at (h .heed .ensures) in
     round-floats x (y .0) (y .1) (y .2)
@@ -73,7 +75,8 @@ sweep-requires c κs =
     let h = q .before in
     let t = h .before .before .before .before in
     let e = t .before .before in
-    let l = e .before .before .before .before .before in
+    let k = e .before .before .before .before .before in
+    let l = k .before in
     let p = l .before .before .before .pre in
     let i = l .loop .inv .0 (p .1 .0) (p .1 .1) (p .1 .2) in
     let x = rw (t .enum-told3 .given .1) at (e .round .ensures (p .1 .0) (i .0) (i .1)) in
@@ -87,7 +90,7 @@ returns-4 c S going p =
     let h = q .before in
     let t = h .before .before .before .before in
     let e = t .before .before in
-    let i = e .before .before .before .before .before .loop .inv .0 S going p in
+    let i = e .before .before .before .before .before .before .loop .inv .0 S going p in
     let x = rw (t .enum-told3 .given .1) at (e .round .ensures S (i .0) (i .1)) in
     let y = rw (not-false (h .heed .result) (q .if1 .left)) at (h .heed .ensures) in
     rw (not-true (w .sweep .result) (c .if2 .taken)) at (w .sweep .ensures S (round-sweepable x y))
@@ -100,17 +103,18 @@ mul-next-test c =
     let h = q .before in
     let t = h .before .before .before .before in
     let e = t .before .before in
-    let l = e .before .before .before .before .before in
+    let k = e .before .before .before .before .before in
+    let l = k .before in
     let p = l .before .before .before .pre in
     let i = l .loop .inv .0 (p .1 .0) (p .1 .1) (p .1 .2) in
     let x = rw (t .enum-told3 .given .1) at (e .round .ensures (p .1 .0) (i .0) (i .1)) in
     let y = rw (not-false (h .heed .result) (q .if1 .left)) at (h .heed .ensures) in
     let v = rw (not-false (w .sweep .result) (z .if2 .left)) at (w .sweep .ensures (p .1 .0) (round-sweepable x y)) in
-    let f = round-tested x y _ _ v (l .loop .rounds) (l .loop .next-test) (l .loop .inv .1) (eqb-true _ _ (c .if3 .taken)) (c .if3 .taken) .fits in
+    let f = round-tested x y _ _ v (l .loop .rounds) (l .loop .next-test) (l .loop .inv .1) (eqb-true _ _ (sym (k .look-after .ensures) ∙ c .if3 .taken)) (c .if3 .taken) .fits in
     search needs
 
 loop-less : tie.Need-loop-less Inv-loop μ-loop
-loop-less c = few-left _ _ _ _ (c .before .before .before .before .before .before .before .before .before .before .before .before .before .before .before .before .before .before .loop .inv .1)
+loop-less c = few-left _ _ _ _ (c .before .before .before .before .before .before .before .before .before .before .before .before .before .before .before .before .before .before .before .loop .inv .1)
 
 loop-again : tie.Need-loop-again Inv-loop μ-loop
 loop-again c =
@@ -120,7 +124,8 @@ loop-again c =
     let h = q .before in
     let t = h .before .before .before .before in
     let e = t .before .before in
-    let l = e .before .before .before .before .before in
+    let k = e .before .before .before .before .before in
+    let l = k .before in
     let p = l .before .before .before .pre in
     let i = l .loop .inv .0 (p .1 .0) (p .1 .1) (p .1 .2) in
     let x = rw (t .enum-told3 .given .1) at (e .round .ensures (p .1 .0) (i .0) (i .1)) in
@@ -130,11 +135,11 @@ loop-again c =
           let j = l .loop .inv .0 S going r in
           let a = rw (t .enum-told3 .given .1) at (e .round .ensures S (j .0) (j .1)) in
           round-going a y _ _ (rw (not-false (w .sweep .result) (z .if2 .left)) at (w .sweep .ensures S (round-sweepable a y))),
-      round-tested x y _ _ v (l .loop .rounds) (l .loop .next-test) (l .loop .inv .1) (eqb-true _ _ (c .if3 .taken)) (c .if3 .taken),
+      round-tested x y _ _ v (l .loop .rounds) (l .loop .next-test) (l .loop .inv .1) (eqb-true _ _ (sym (k .look-after .ensures) ∙ c .if3 .taken)) (c .if3 .taken),
     )
 
 loop-less-2 : tie.Need-loop-less-2 Inv-loop μ-loop
-loop-less-2 c = few-left _ _ _ _ (c .before .before .before .before .before .before .before .before .before .before .before .before .before .before .before .before .before .before .loop .inv .1)
+loop-less-2 c = few-left _ _ _ _ (c .before .before .before .before .before .before .before .before .before .before .before .before .before .before .before .before .before .before .before .loop .inv .1)
 
 loop-again-2 : tie.Need-loop-again-2 Inv-loop μ-loop
 loop-again-2 c =
@@ -144,7 +149,8 @@ loop-again-2 c =
     let h = q .before in
     let t = h .before .before .before .before in
     let e = t .before .before in
-    let l = e .before .before .before .before .before in
+    let k = e .before .before .before .before .before in
+    let l = k .before in
     let p = l .before .before .before .pre in
     let i = l .loop .inv .0 (p .1 .0) (p .1 .1) (p .1 .2) in
     let x = rw (t .enum-told3 .given .1) at (e .round .ensures (p .1 .0) (i .0) (i .1)) in
@@ -154,7 +160,7 @@ loop-again-2 c =
           let j = l .loop .inv .0 S going r in
           let a = rw (t .enum-told3 .given .1) at (e .round .ensures S (j .0) (j .1)) in
           round-going a y _ _ (rw (not-false (w .sweep .result) (z .if2 .left)) at (w .sweep .ensures S (round-sweepable a y))),
-      round-more x y _ _ v (l .loop .rounds) (l .loop .next-test) (l .loop .inv .1) (eqb-false _ _ (c .if3 .left)),
+      round-more x y _ _ v (l .loop .rounds) (l .loop .next-test) (l .loop .inv .1) (eqb-false _ _ (sym (k .look-after .ensures) ∙ c .if3 .left)),
     )
 
 pub relax-spec : {M : Type 1} → statement M
@@ -165,6 +171,7 @@ relax-spec =
     μ-loop
     loop-holds
     add-rounds
+    (λ c κs. search needs)
     round-requires
     (λ c. search needs)
     returns
