@@ -1,7 +1,7 @@
 -- What a node's turn and a pass answer.
 use Prim.Native.Nat.{ℕ}
 use mathlib.Core.Path.{_≡_}
-use mathlib.Core.Bool.{Bool}
+use mathlib.Core.Bool.{Bool, false}
 use mathlib.Core.List.{List}
 use lib.ListN.{set}
 use Rattle.maps.specs.Label.{Label}
@@ -12,6 +12,9 @@ use Rattle.rows.specs.Cells.{Ends}
 use Rattle.relax.specs.Settle.{Settles, Pass, Passing}
 use Rattle.bound.specs.Lookup.{labelIn}
 use Rattle.bound.specs.Going.{AllKept, Going}
+use Rattle.sweep.specs.Sweep.{SomeFails}
+use Rattle.pass.specs.declared.Course.{Course}
+use Rattle.pass.specs.declared.Course.the-variants as Is
 
 -- The tables that a pass works on, in one list: those of the sheet, the differences by their targets, the kept cuts and the labels.
 module _ (graph differences : List ℕ) (limits : R.Header) (first next kept steps levels : List ℕ) (v : ℕ) where
@@ -34,7 +37,18 @@ Turned S graph differences limits first next kept steps levels steps' levels' v 
     Ends r (Going S graph differences limits first next kept steps' levels'
     × (b : Label) × Settles S (labelIn steps levels) v b × (steps' ≡ set steps v (b .step)) × (levels' ≡ set levels v (b .level))) (NoneLegal S)
 
--- every node was settled in turn, or nothing is legal within the horizon
-abbrev pub Passed : (S : Sheet) (graph differences : List ℕ) (limits : R.Header) (first next kept steps levels steps' levels' : List ℕ) → Bool → Type 0
-Passed S graph differences limits first next kept steps levels steps' levels' r =
-    Ends r (Going S graph differences limits first next kept steps' levels' × Passing S (labelIn steps levels) (size S) (labelIn steps' levels')) (NoneLegal S)
+-- the nodes below `turns` were settled in turn, and a heeded difference fails
+pub record Halted (S : Sheet) (graph differences : List ℕ) (limits : R.Header) (first next kept steps levels steps' levels' : List ℕ) (whole : Bool) : Type 0 where
+  pub going : Going S graph differences limits first next kept steps' levels'
+  pub turns : ℕ
+  pub passing : Passing S (labelIn steps levels) turns (labelIn steps' levels')
+  pub fails : SomeFails differences first steps' (limits .differences)
+  pub partly : whole ≡ false
+
+-- late: nothing is legal within the horizon. stopped: a part of the nodes was settled. whole: every node was
+abbrev pub Passed : (S : Sheet) (graph differences : List ℕ) (limits : R.Header) (first next kept steps levels steps' levels' : List ℕ) (whole : Bool) → Course → Type 0
+Passed S graph differences limits first next kept steps levels steps' levels' whole Is.Late = NoneLegal S
+Passed S graph differences limits first next kept steps levels steps' levels' whole Is.Stopped =
+    Halted S graph differences limits first next kept steps levels steps' levels' whole
+Passed S graph differences limits first next kept steps levels steps' levels' whole Is.Whole =
+    Going S graph differences limits first next kept steps' levels' × Passing S (labelIn steps levels) (size S) (labelIn steps' levels')

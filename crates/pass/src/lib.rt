@@ -1,22 +1,36 @@
 // A pass: every node in id order gets the least label that its conditions and the present labels force. `first` has the lists of the differences
 // that are heeded.
-ghost use Prim.Native.Nat.{_<_};
+ghost use mathlib.Core.Path.{_≡_};
+ghost use mathlib.Core.Bool.{true};
+ghost use Prim.Native.Nat.{ℕ, _<_, _≤_};
 ghost use Rattle.maps.specs.Code.{labelOf};
+ghost use Rattle.bound.specs.Bound.{Summed};
+ghost use Rattle.sweep.specs.Sweep.{SomeFails};
 ghost use Rattle.pass.specs.Turn.{Underway, Onward, SettledNode, Turned, Passed};
 use bound::Levels;
 use bound::Steps;
 use bound::base_label;
 use bound::latest_arrival;
 use bound::place_label;
+use bound::step_of;
 use level::Cuts;
 use level::table_label;
 use maps::Kind;
 use maps::Label;
 use maps::Level;
+use maps::Step;
 use rows::Differences;
 use rows::Graph;
 use rows::Header;
 use rows::kind_in;
+use sweep::pulls_below;
+
+// What a pass comes to. It stops where it is not to be whole and a difference that it has broken leads back to a node that had its turn.
+pub enum Course {
+    Late,
+    Stopped,
+    Whole,
+}
 
 // The label of v in its turn.
 pub fn node_label(
@@ -77,7 +91,27 @@ pub fn settle(
     place_label(graph, steps, levels, v, a, limits.horizon)
 }
 
-// Settles every node in id order; false where one ends after the horizon.
+// Whether v has left the step `was`, and a heeded difference from it to a lower node does not hold.
+pub fn leads_back(
+    differences: &Differences,
+    first: &[u32; 256],
+    steps: &Steps,
+    m: u32,
+    v: u32,
+    was: Step,
+) -> bool
+    requires { ⌜ (v < 256) × (m ≤ 1024) ⌝ }
+    requires { ⌜ ((i : ℕ) → i < m → Summed (now differences) (now steps) i) ⌝ }
+    ensures { λ r. ⌜ (r ≡ true → SomeFails (now (differences .entry)) (now (first .entry)) (now (steps .entry)) m) ⌝ }
+{
+    let own = step_of(steps, v);
+    if own.0 <= was.0 {
+        return false;
+    }
+    pulls_below(differences, first, steps, m, v)
+}
+
+// Settles every node in id order, unless one ends after the horizon. Where `whole` is not set it stops as soon as a node's rise leads back.
 pub fn pass(
     graph: &Graph,
     differences: &Differences,
@@ -87,13 +121,15 @@ pub fn pass(
     kept: &mut Cuts,
     steps: &mut Steps,
     levels: &mut Levels,
-) -> bool
+    whole: bool,
+) -> Course
     requires { ⌜ Underway (now graph) (now differences) limits (now first) (now next) (now kept) (now steps) (now levels) 0 ⌝ }
     ensures { λ r. ⌜ Onward (now (graph .entry)) (now (differences .entry)) limits (now (first .entry)) (now (next .entry)) (now (kept .entry)) (now (steps .entry)) (now (levels .entry)) 0
-        (λ S. Passed S (now (graph .entry)) (now (differences .entry)) limits (now (first .entry)) (now (next .entry)) (now (kept .exit)) (now (steps .entry)) (now (levels .entry)) (now (steps .exit)) (now (levels .exit)) r) ⌝ }
+        (λ S. Passed S (now (graph .entry)) (now (differences .entry)) limits (now (first .entry)) (now (next .entry)) (now (kept .exit)) (now (steps .entry)) (now (levels .entry)) (now (steps .exit)) (now (levels .exit)) whole r) ⌝ }
 {
     let mut v: u32 = 0;
     while v < limits.nodes {
+        let was = step_of(steps, v);
         if !settle(
             graph,
             differences,
@@ -105,9 +141,14 @@ pub fn pass(
             levels,
             v,
         ) {
-            return false;
+            return Course::Late;
+        }
+        if !whole {
+            if leads_back(differences, first, steps, limits.differences, v, was) {
+                return Course::Stopped;
+            }
         }
         v += 1;
     }
-    true
+    Course::Whole
 }

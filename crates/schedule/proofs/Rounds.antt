@@ -38,7 +38,7 @@ use Rattle.relax.proofs.Guard.{legal-node, legal-diffs, ok-legal}
 use Rattle.relax.proofs.Forced.{ok-same}
 use Rattle.relax.proofs.Held.{well-climb, held-bound}
 use Rattle.relax.proofs.Passes.{pass-start, pass-again, pass-least, pass-floats, stepsOf, steps-bound}
-use Rattle.relax.proofs.Loop.{passing-grows}
+use Rattle.relax.proofs.Loop.{passing-pass, passing-grows}
 use Rattle.relax.proofs.Sweeps.{sweep-moves}
 use Rattle.bound.specs.Lookup.{labelIn, labelsIn, Linked, Heeded}
 use Rattle.bound.specs.Bound.{HoldsAt}
@@ -46,8 +46,12 @@ use Rattle.bound.specs.Going.{Given, AllKept, Timed, Going}
 use Rattle.bound.proofs.Asking.{linked-heeding, linked-heeded}
 use Rattle.bound.proofs.Safety.{node-in, latency-is, delay-is, graph-falls, difference-in, targets, kept-at, holds-at}
 use Rattle.hold.specs.Mark.{HeldIn, zero-in, operand-in, target-in}
+use Rattle.hold.proofs.HoldMarks.{not-both}
+use Rattle.pass.specs.Turn.{Passed}
+use Rattle.pass.specs.declared.Course.{Course}
+use Rattle.schedule.specs.declared.labels.Turn.{Turn}
 use Rattle.sweep.specs.Sweep.{AllHold, SomeFails, Sweepable, SweepEnds}
-use Rattle.schedule.specs.Round.{First, GoesOn, Heeds, Relaxed, stepsIn, stepsMost, heldMost, roundsMost}
+use Rattle.schedule.specs.Round.{First, GoesOn, TurnEnds, was-late, was-stopped, was-last, goes-on, RoundEnds, Heeds, Relaxed, stepsIn, stepsMost, heldMost, roundsMost}
 
 -- the first labels, one node after the other: none yet, and one more
 pub first-none : {graph steps levels : List ℕ} {horizon : ℕ} → steps ≡ replicate 256 0 → levels ≡ replicate 256 0 → First graph steps levels 0 horizon
@@ -204,15 +208,15 @@ module _ {S : Sheet} {graph differences : List ℕ} {limits : R.Header} (g : Giv
         omega (arith, steps-is steps levels, most-is)
 
     -- a pass lets no step fall
-    pub pass-most : (steps₀ levels₀ : List ℕ) → Pass S (labelIn steps₀ levels₀) 0 → Passing S (labelIn steps₀ levels₀) (size S) (labelIn steps levels)
+    pass-most : (steps₀ levels₀ : List ℕ) → Pass S (labelIn steps₀ levels₀) 0 → (k : ℕ) → Passing S (labelIn steps₀ levels₀) k (labelIn steps levels)
         → stepsIn (limits .nodes) steps₀ ≤ stepsIn (limits .nodes) steps
-    pass-most steps₀ levels₀ p q =
+    pass-most steps₀ levels₀ p k q =
         let b = total-mono (λ v. getD steps₀ v 0) (λ v. getD steps v 0) (size S)
-        (λ v l. passing-grows S closed (labelIn steps₀ levels₀) p (size S) (labelIn steps levels) q v l .steps) in
+        (λ v l. passing-grows S closed (labelIn steps₀ levels₀) p k (labelIn steps levels) q v l .steps) in
         omega (arith, steps-is steps₀ levels₀, steps-is steps levels)
 
     -- after a pass every difference holds
-    pub all-least : {first next : List ℕ} → Linked differences (limits .differences) first next → Timed S steps levels → Pass S (labelIn steps levels) (size S)
+    all-least : {first next : List ℕ} → Linked differences (limits .differences) first next → Timed S steps levels → Pass S (labelIn steps levels) (size S)
         → AllHold differences first steps (limits .differences) → Least S (S .horizon) (labelIn steps levels)
     all-least {first} linked timed p h =
         pass-least S closed (labelIn steps levels) p (S .horizon)
@@ -281,11 +285,42 @@ module _ (limits : R.Header) (h p k rounds next : ℕ) (few : Few limits h round
   few-tested e b s =
       record { risen = omega (arith, few .risen); early = omega arith; near = omega (arith, few .risen); fits = omega (arith, few .risen) }
 
+-- what a pass says by its course and by whether the differences hold
+module _ {S : Sheet} {graph differences : List ℕ} {limits : R.Header} (g : Given S graph differences limits) {first next : List ℕ}
+    (linked : Linked differences (limits .differences) first next) (heeded kept steps₀ levels₀ steps levels : List ℕ) (whole : Bool)
+    (p : Pass S (labelIn steps₀ levels₀) 0) where
+  settled : (k : ℕ) → Passing S (labelIn steps₀ levels₀) k (labelIn steps levels) → Pass S (labelIn steps levels) k
+  settled k q = passing-pass S (closed g) (labelIn steps₀ levels₀) p k (labelIn steps levels) q
+
+  pub round-ends : {course : Course} {turn : Turn} → TurnEnds differences first steps (limits .differences) course turn
+      → Passed S graph differences limits heeded next kept steps₀ levels₀ steps levels whole course
+      → RoundEnds S graph differences limits first heeded next kept steps₀ steps levels whole turn
+  round-ends was-late h = h
+  round-ends was-stopped h =
+      let i = h .fails .0 in
+      let l = h .fails .1 in
+      record {
+        going = h .going;
+        pass = pass-again S (labelIn steps levels) (h .turns) (settled (h .turns) (h .passing));
+        settled = λ t. absurd (not-both t (h .partly));
+        fails = (i, l, record { heeded = linked-heeded differences linked i l (targets g i l); fails = h .fails .2 .fails });
+        grown = pass-most g steps levels steps₀ levels₀ p (h .turns) (h .passing);
+      }
+  round-ends (was-last a) h = all-least g steps levels linked (h .0 .timed) (settled (size S) (h .1)) a
+  round-ends (goes-on f) h =
+      record {
+        going = h .0;
+        pass = pass-again S (labelIn steps levels) (size S) (settled (size S) (h .1));
+        settled = λ t. settled (size S) (h .1);
+        fails = f;
+        grown = pass-most g steps levels steps₀ levels₀ p (size S) (h .1);
+      }
+
 -- A round that goes on: the labels after its pass, then the differences that are heeded, then the sweep.
-module _ {S : Sheet} {graph differences : List ℕ} {limits : R.Header} {first heeded₀ next kept steps₀ steps levels : List ℕ}
-    (x : GoesOn S graph differences limits first heeded₀ next kept steps₀ steps levels) where
-  pub round-floats : (v : ℕ) → v < limits .nodes → (HeldIn graph differences steps (limits .nodes) (limits .differences) v → ⊥) → NoneLegal S
-  round-floats = floats-none (x .going .given) steps levels (x .settled)
+module _ {S : Sheet} {graph differences : List ℕ} {limits : R.Header} {first heeded₀ next kept steps₀ steps levels : List ℕ} {whole : Bool}
+    (x : GoesOn S graph differences limits first heeded₀ next kept steps₀ steps levels whole) where
+  pub round-floats : whole ≡ true → (v : ℕ) → v < limits .nodes → (HeldIn graph differences steps (limits .nodes) (limits .differences) v → ⊥) → NoneLegal S
+  round-floats w = floats-none (x .going .given) steps levels (x .settled w)
 
   module _ {heeded : List ℕ} {test : Bool} (y : Heeds graph differences limits next steps heeded test) where
     pub round-sweepable : Sweepable S graph differences limits heeded next steps levels
@@ -294,7 +329,7 @@ module _ {S : Sheet} {graph differences : List ℕ} {limits : R.Header} {first h
           given = x .going .given;
           heeding = y .heeding;
           timed = x .going .timed;
-          pass = pass-again S (labelIn steps levels) (size S) (x .settled);
+          pass = x .pass;
         }
 
     module _ (steps′ levels′ : List ℕ) (z : SweepEnds S heeded steps levels steps′ levels′ true) where

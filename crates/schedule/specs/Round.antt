@@ -14,7 +14,9 @@ use Rattle.relax.specs.Settle.{Pass}
 use Rattle.bound.specs.Lookup.{labelIn, Heeding}
 use Rattle.bound.specs.Going.{Going}
 use Rattle.hold.specs.Mark.{HeldIn}
-use Rattle.sweep.specs.Sweep.{SomeFails}
+use Rattle.sweep.specs.Sweep.{AllHold, SomeFails}
+use Rattle.pass.specs.declared.Course.{Course}
+use Rattle.pass.specs.declared.Course.the-variants as Ran
 use Rattle.schedule.specs.declared.labels.Turn.{Turn}
 use Rattle.schedule.specs.declared.labels.Turn.the-variants as Is
 
@@ -47,19 +49,27 @@ heldMost limits = limits .nodes * ((limits .nodes - 1) * weightMost)
 abbrev pub roundsMost : R.Header → ℕ
 roundsMost limits = heldMost limits + heldMost limits + 2
 
--- after a pass every node keeps its conditions but for a difference that fails, and the steps have not fallen
-pub record GoesOn (S : Sheet) (graph differences : List ℕ) (limits : R.Header) (first heeded next kept steps steps' levels' : List ℕ) : Type 0 where
+-- after a pass that goes on a difference fails, and the steps have not fallen; where it was whole every node keeps its other conditions
+pub record GoesOn (S : Sheet) (graph differences : List ℕ) (limits : R.Header) (first heeded next kept steps steps' levels' : List ℕ) (whole : Bool) : Type 0 where
   pub going : Going S graph differences limits heeded next kept steps' levels'
-  pub settled : Pass S (labelIn steps' levels') (size S)
+  pub pass : Pass S (labelIn steps' levels') 0
+  pub settled : whole ≡ true → Pass S (labelIn steps' levels') (size S)
   pub fails : SomeFails differences first steps' (limits .differences)
   pub grown : stepsIn (limits .nodes) steps ≤ stepsIn (limits .nodes) steps'
 
+-- what a pass of each course comes to
+pub data TurnEnds (differences first steps : List ℕ) (m : ℕ) : Course → Turn → Type 0 where
+  was-late : TurnEnds differences first steps m Ran.Late Is.Late
+  was-stopped : TurnEnds differences first steps m Ran.Stopped Is.Again
+  was-last : AllHold differences first steps m → TurnEnds differences first steps m Ran.Whole Is.Least
+  goes-on : SomeFails differences first steps m → TurnEnds differences first steps m Ran.Whole Is.Again
+
 -- least: the labels are the least legal ones. late: nothing is legal within the horizon. again: they go on
-abbrev pub RoundEnds : (S : Sheet) (graph differences : List ℕ) (limits : R.Header) (first heeded next kept steps steps' levels' : List ℕ) → Turn → Type 0
-RoundEnds S graph differences limits first heeded next kept steps steps' levels' Is.Least = Least S (S .horizon) (labelIn steps' levels')
-RoundEnds S graph differences limits first heeded next kept steps steps' levels' Is.Late = NoneLegal S
-RoundEnds S graph differences limits first heeded next kept steps steps' levels' Is.Again =
-    GoesOn S graph differences limits first heeded next kept steps steps' levels'
+abbrev pub RoundEnds : (S : Sheet) (graph differences : List ℕ) (limits : R.Header) (first heeded next kept steps steps' levels' : List ℕ) (whole : Bool) → Turn → Type 0
+RoundEnds S graph differences limits first heeded next kept steps steps' levels' whole Is.Least = Least S (S .horizon) (labelIn steps' levels')
+RoundEnds S graph differences limits first heeded next kept steps steps' levels' whole Is.Late = NoneLegal S
+RoundEnds S graph differences limits first heeded next kept steps steps' levels' whole Is.Again =
+    GoesOn S graph differences limits first heeded next kept steps steps' levels' whole
 
 -- some differences are heeded, of which one fails; where the test was asked for every node is held
 pub record Heeds (graph differences : List ℕ) (limits : R.Header) (next steps heeded : List ℕ) (test : Bool) : Type 0 where
@@ -67,11 +77,11 @@ pub record Heeds (graph differences : List ℕ) (limits : R.Header) (next steps 
   pub fails : SomeFails differences heeded steps (limits .differences)
   pub held : test ≡ true → (v : ℕ) → v < limits .nodes → HeldIn graph differences steps (limits .nodes) (limits .differences) v
 
--- the same, or a node floats
+-- the same, or the test was asked for and a node floats
 abbrev pub HeedEnds : (graph differences : List ℕ) (limits : R.Header) (next steps heeded : List ℕ) (test : Bool) → Bool → Type 0
 HeedEnds graph differences limits next steps heeded test r =
     Ends r (Heeds graph differences limits next steps heeded test)
-    ((v : ℕ) × (v < limits .nodes) × (HeldIn graph differences steps (limits .nodes) (limits .differences) v → ⊥))
+    ((v : ℕ) × (v < limits .nodes) × (HeldIn graph differences steps (limits .nodes) (limits .differences) v → ⊥) × (test ≡ true))
 
 -- the labels are the least legal ones, or nothing is legal within the horizon
 abbrev pub Relaxed : (S : Sheet) (steps levels : List ℕ) → Bool → Type 0

@@ -1,6 +1,7 @@
 // The least labels: passes from the earliest labels on, with a sweep over the differences between two of them, until every difference holds, a label
 // ends after the horizon, or nodes float.
 ghost use mathlib.Core.Path.{_≡_};
+ghost use mathlib.Core.Bool.{true};
 ghost use mathlib.Core.List.{List, []};
 ghost use Prim.Native.Nat.{ℕ, _+_, _<_, _≤_};
 ghost use lib.Dec.{eqb};
@@ -12,9 +13,11 @@ ghost use Rattle.rows.specs.Table.{Tabled};
 ghost use Rattle.rows.specs.Cells.{Ends};
 ghost use Rattle.bound.specs.Lookup.{labelsIn, Soon, Linked, Heeding};
 ghost use Rattle.bound.specs.Going.{Given, Timed, AllKept};
+ghost use Rattle.bound.specs.Bound.{Summed};
 ghost use Rattle.pass.specs.Turn.{Underway, Onward};
+ghost use Rattle.pass.specs.declared.Course.the-variants.{Whole};
 ghost use Rattle.sweep.specs.Sweep.{SomeFails};
-ghost use Rattle.schedule.specs.Round.{Started, RoundEnds, HeedEnds, Relaxed};
+ghost use Rattle.schedule.specs.Round.{Started, TurnEnds, HeedEnds, Relaxed};
 use bound::Levels;
 use bound::Steps;
 use bound::clear_labels;
@@ -25,6 +28,7 @@ use hold::floats;
 use level::Cuts;
 use maps::Label;
 use maps::Step;
+use pass::Course;
 use pass::pass;
 use rows::Differences;
 use rows::Graph;
@@ -43,26 +47,34 @@ pub enum Turn {
     Again,
 }
 
-// What is looked at after a round: whether nodes float, and which have moved since the last look.
-pub struct Look {
+// How a round is done: whether its pass is whole, whether nodes are tested for floating after it, and whether those that have not moved are frozen.
+pub struct Mode {
+    pub whole: bool,
     pub test: bool,
     pub freeze: bool,
 }
 
+// The rounds with a whole pass. Most sheets want no more; later ones are mostly chains of rises, link by link, and a pass that stops at a link does not
+// settle the nodes above it in vain.
+const WHOLE_UP_TO: u32 = 4;
+
 // The rounds after which nodes are frozen. Fewer settle most sheets, and there freezing only adds to them.
 const FREEZE_FROM: u32 = 64;
 
-// The look after so many rounds: a test where it is due.
-pub fn look_after(rounds: u32, due: u32) -> Look
-    ensures { λ r. ⌜ r .test ≡ eqb rounds due ⌝ }
+// How a round is done: with a test where it is due, and then whole.
+pub fn mode_of(round: u32, due: u32) -> Mode
+    ensures { λ r. ⌜ r .test ≡ eqb round due ⌝ }
+    ensures { λ r. ⌜ (r .test ≡ true → r .whole ≡ true) ⌝ }
 {
-    if rounds == due {
-        return Look {
+    if round == due {
+        return Mode {
+            whole: true,
             test: true,
-            freeze: rounds >= FREEZE_FROM,
+            freeze: round >= FREEZE_FROM,
         };
     }
-    Look {
+    Mode {
+        whole: round <= WHOLE_UP_TO,
         test: false,
         freeze: false,
     }
@@ -88,39 +100,28 @@ pub fn start(graph: &Graph, steps: &mut Steps, levels: &mut Levels, n: u32, hori
     true
 }
 
-// A pass with the heeded differences, and whether it was the last.
-pub fn round(
-    graph: &Graph,
+// What the course of a pass comes to: it was the last where it was whole and every difference holds.
+pub fn turn_after(
+    course: Course,
     differences: &Differences,
-    limits: Header,
     first: &[u32; 256],
-    heeded: &[u32; 256],
-    next: &[u32; 1024],
-    kept: &mut Cuts,
-    steps: &mut Steps,
-    levels: &mut Levels,
+    steps: &Steps,
+    m: u32,
 ) -> Turn
-    requires { ⌜ Linked (now differences) (limits .differences) (now first) (now next) ⌝ }
-    requires { ⌜ Underway (now graph) (now differences) limits (now heeded) (now next) (now kept) (now steps) (now levels) 0 ⌝ }
-    ensures { λ r. ⌜ Onward (now (graph .entry)) (now (differences .entry)) limits (now (heeded .entry)) (now (next .entry)) (now (kept .entry)) (now (steps .entry)) (now (levels .entry)) 0
-        (λ S. RoundEnds S (now (graph .entry)) (now (differences .entry)) limits (now (first .entry)) (now (heeded .entry)) (now (next .entry)) (now (kept .exit)) (now (steps .entry)) (now (steps .exit)) (now (levels .exit)) r) ⌝ }
+    requires { ⌜ m ≤ 1024 ⌝ }
+    requires { ⌜ (course ≡ Whole → (i : ℕ) → i < m → Summed (now differences) (now steps) i) ⌝ }
+    ensures { λ r. ⌜ TurnEnds (now (differences .entry)) (now (first .entry)) (now (steps .entry)) m course r ⌝ }
 {
-    if !pass(
-        graph,
-        differences,
-        limits,
-        heeded,
-        next,
-        kept,
-        steps,
-        levels,
-    ) {
-        return Turn::Late;
+    match course {
+        Course::Late => Turn::Late,
+        Course::Stopped => Turn::Again,
+        Course::Whole => {
+            if differences_hold(differences, first, steps, m) {
+                return Turn::Least;
+            }
+            Turn::Again
+        }
     }
-    if differences_hold(differences, first, steps, limits.differences) {
-        return Turn::Least;
-    }
-    Turn::Again
 }
 
 // Which differences are heeded next; false where a test finds that a node floats. After a freeze these are the differences into nodes that have
@@ -134,15 +135,15 @@ pub fn heed(
     steps: &Steps,
     since: &mut Steps,
     heeded: &mut [u32; 256],
-    look: Look,
+    mode: Mode,
 ) -> bool
     requires { ⌜ ((S : Sheet) × (levels : List ℕ) × Given S (now graph) (now differences) limits × Timed S (now steps) levels) ⌝ }
     requires { ⌜ Linked (now differences) (limits .differences) (now first) (now next) ⌝ }
     requires { ⌜ Heeding (now differences) (limits .differences) (now heeded) (now next) ⌝ }
     requires { ⌜ SomeFails (now differences) (now first) (now steps) (limits .differences) ⌝ }
-    ensures { λ r. ⌜ HeedEnds (now (graph .entry)) (now (differences .entry)) limits (now (next .entry)) (now (steps .entry)) (now (heeded .exit)) (look .test) r ⌝ }
+    ensures { λ r. ⌜ HeedEnds (now (graph .entry)) (now (differences .entry)) limits (now (next .entry)) (now (steps .entry)) (now (heeded .exit)) (mode .test) r ⌝ }
 {
-    if look.test {
+    if mode.test {
         if floats(
             graph,
             differences,
@@ -155,7 +156,7 @@ pub fn heed(
             return false;
         }
     }
-    if look.freeze {
+    if mode.freeze {
         freeze(first, steps, since, heeded, limits.nodes);
     }
     thaw(differences, first, steps, heeded, limits.differences);
@@ -183,18 +184,19 @@ pub fn relax(
     let mut next_test: u32 = 2;
     loop {
         rounds += 1;
-        let look = look_after(rounds, next_test);
-        let turn = round(
+        let mode = mode_of(rounds, next_test);
+        let course = pass(
             graph,
             differences,
             limits,
-            first,
             &heeded,
             next,
             kept,
             steps,
             levels,
+            mode.whole,
         );
+        let turn = turn_after(course, differences, first, steps, limits.differences);
         match turn {
             Turn::Least => return true,
             Turn::Late => return false,
@@ -209,14 +211,14 @@ pub fn relax(
             steps,
             &mut since,
             &mut heeded,
-            look,
+            mode,
         ) {
             return false;
         }
         if !sweep(graph, differences, limits, &heeded, next, steps, levels) {
             return false;
         }
-        if look.test {
+        if mode.test {
             next_test *= 2;
         }
     }

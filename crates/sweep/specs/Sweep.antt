@@ -9,7 +9,7 @@ use lib.ListN.{length, getD}
 use Rattle.maps.specs.Label.{Label}
 use Rattle.maps.specs.Sheet.{Sheet}
 use Rattle.maps.specs.Legal.{NoneLegal}
-use Rattle.rows.specs.Table.{toIn}
+use Rattle.rows.specs.Table.{fromIn, toIn}
 use Rattle.rows.specs.declared.Header as R
 use Rattle.rows.specs.Cells.{Ends}
 use Rattle.relax.specs.Guard.{Raised}
@@ -30,6 +30,12 @@ AllHold differences first steps m = (i : ℕ) → i < m → Fails differences fi
 
 abbrev pub SomeFails : (differences first steps : List ℕ) (m : ℕ) → Type 0
 SomeFails differences first steps m = (i : ℕ) × (i < m) × Fails differences first steps i
+
+-- difference i leads from v to a lower node, is heeded and does not hold
+pub record FailsBelow (differences first steps : List ℕ) (v i : ℕ) : Type 0 where
+  pub from : fromIn differences i ≡ v
+  pub lower : toIn differences i < v
+  pub fails : Fails differences first steps i
 
 -- of n nodes those whose step is another one than in `since` have the lists of `first`; all other lists are empty
 pub record Frozen (first steps since heeded : List ℕ) (n : ℕ) : Type 0 where

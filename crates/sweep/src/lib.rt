@@ -5,7 +5,7 @@ ghost use Prim.Native.Nat.{ℕ, _<_, _≤_};
 ghost use Rattle.maps.specs.Sheet.{Sheet};
 ghost use Rattle.rows.specs.Cells.{Ends};
 ghost use Rattle.bound.specs.Bound.{Summed};
-ghost use Rattle.sweep.specs.Sweep.{Fails, AllHold, SomeFails, Frozen, Thawed, Sweepable, PushEnds, SweepEnds};
+ghost use Rattle.sweep.specs.Sweep.{Fails, AllHold, SomeFails, FailsBelow, Frozen, Thawed, Sweepable, PushEnds, SweepEnds};
 use bound::Levels;
 use bound::Steps;
 use bound::after_differences;
@@ -58,6 +58,50 @@ pub fn differences_hold(
         i += 1;
     }
     true
+}
+
+// Whether difference i leads from v to a lower node, is heeded and does not hold.
+pub fn fails_below(
+    differences: &Differences,
+    first: &[u32; 256],
+    steps: &Steps,
+    i: u32,
+    v: u32,
+) -> bool
+    requires { ⌜ i < 1024 ⌝ }
+    requires { ⌜ Summed (now differences) (now steps) i ⌝ }
+    ensures { λ r. ⌜ Ends r (FailsBelow (now (differences .entry)) (now (first .entry)) (now (steps .entry)) v i) (FailsBelow (now (differences .entry)) (now (first .entry)) (now (steps .entry)) v i → ⊥) ⌝ }
+{
+    let d = difference_in(differences, i);
+    if d.from != v {
+        return false;
+    }
+    if v <= d.to {
+        return false;
+    }
+    fails(differences, first, steps, i)
+}
+
+// Whether a heeded difference from v to a lower node does not hold.
+pub fn pulls_below(
+    differences: &Differences,
+    first: &[u32; 256],
+    steps: &Steps,
+    m: u32,
+    v: u32,
+) -> bool
+    requires { ⌜ m ≤ 1024 ⌝ }
+    requires { ⌜ ((i : ℕ) → i < m → Summed (now differences) (now steps) i) ⌝ }
+    ensures { λ r. ⌜ Ends r ((i : ℕ) × (i < m) × FailsBelow (now (differences .entry)) (now (first .entry)) (now (steps .entry)) v i) ((i : ℕ) → i < m → FailsBelow (now (differences .entry)) (now (first .entry)) (now (steps .entry)) v i → ⊥) ⌝ }
+{
+    let mut i: u32 = 0;
+    while i < m {
+        if fails_below(differences, first, steps, i, v) {
+            return true;
+        }
+        i += 1;
+    }
+    false
 }
 
 // Heeds the differences into those of n nodes alone whose step has moved since the steps in `since` were noted, and notes the steps.

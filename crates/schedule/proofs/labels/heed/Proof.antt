@@ -18,7 +18,7 @@ floats-requires c κs =
     ((few-nodes g, few-differences g), (graph-falls g, (λ u l. soon-all g t u l, (p .1 .0, λ i l. summed-all g t i l))))
 
 returns : tie.Need-returns
-returns c = rw (c .if2 .taken) at (c .before .floats .ensures)
+returns c = let w = rw (c .if2 .taken) at (c .before .floats .ensures) in (w .0, w .1, w .2, c .before .before .if1 .taken)
 
 freeze-requires : tie.Need-freeze-requires
 freeze-requires c κs = few-nodes (c .before .before .before .before .pre .0 .2)

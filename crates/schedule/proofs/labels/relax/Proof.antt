@@ -8,8 +8,9 @@ use Rattle.maps.specs.Sheet.{Sheet}
 use Rattle.relax.specs.Settle.{Pass}
 use Rattle.bound.specs.Lookup.{labelIn}
 use Rattle.bound.specs.Going.{Going}
+use Rattle.bound.proofs.Safety.{few-differences, summed-all}
 use Rattle.schedule.specs.Round.{stepsIn, roundsMost}
-use Rattle.schedule.proofs.Rounds.{Few, few-left, few-none, round-floats, round-sweepable, round-going, round-more, round-tested}
+use Rattle.schedule.proofs.Rounds.{Few, few-left, few-none, round-ends, round-floats, round-sweepable, round-going, round-more, round-tested}
 use Rattle.schedule.proofs.labels.relax.Statement.{statement}
 use Rattle.schedule.proofs.labels.relax.Tie as tie
 
@@ -29,70 +30,100 @@ loop-holds c = (λ S going p. (going, p), few-none _ _)
 add-rounds : tie.Need-add-rounds Inv-loop μ-loop
 add-rounds c = let f = c .loop .inv .1 .early in let t = c .loop .inv .1 .fits in search needs
 
-round-requires : tie.Need-round-requires Inv-loop μ-loop
-round-requires c κs =
+pass-requires : tie.Need-pass-requires Inv-loop μ-loop
+pass-requires c κs =
     let l = c .before .before .before .before .before in
-    let p = l .before .before .before .pre in
-    let i = l .loop .inv .0 (p .1 .0) (p .1 .1) (p .1 .2) in
-    (p .0, (p .1 .0, i .0, i .1))
+    let p = l .before .before .before .pre .1 in
+    let i = l .loop .inv .0 (p .0) (p .1) (p .2) in
+    (p .0, i .0, i .1)
+
+turn-after-requires : tie.Need-turn-after-requires Inv-loop μ-loop
+turn-after-requires c κs =
+    let h = c .before in
+    let l = h .before .before .before .before .before .before in
+    let p = l .before .before .before .pre .1 in
+    let i = l .loop .inv .0 (p .0) (p .1) (p .2) in
+    (few-differences (p .1 .given), λ w j b. let q = rw w at (h .pass .ensures (p .0) (i .0) (i .1)) in summed-all (q .0 .given) (q .0 .timed) j b)
 
 returns : tie.Need-returns Inv-loop μ-loop
 returns c S going p =
-    let e = c .before .before in
-    let i = e .before .before .before .before .before .before .loop .inv .0 S going p in
-    rw (c .enum-told .given .1) at (e .round .ensures S (i .0) (i .1))
+    let t = c in
+    let e = t .before .before in
+    let h = e .before .before in
+    let k = h .before .before .before .before .before in
+    let l = k .before in
+    let s = l .before .before .before in
+    let i = l .loop .inv .0 S going p in
+    rw (t .enum-told .given .1) at (round-ends (i .0 .given) (s .pre .0) (l .loop .heeded) (h .pass .last .1 .1 .1 .1 .1 .0) (l .loop .steps) (l .loop .levels) (h .pass .last .1 .1 .1 .1 .1 .1 .0) (h .pass .last .1 .1 .1 .1 .1 .1 .1 .0) (k .mode-of .result .whole) (i .1) (e .turn-after .ensures) (h .pass .ensures S (i .0) (i .1)))
 
 returns-2 : tie.Need-returns-2 Inv-loop μ-loop
 returns-2 c S going p =
-    let e = c .before .before in
-    let i = e .before .before .before .before .before .before .loop .inv .0 S going p in
-    rw (c .enum-told2 .given .1) at (e .round .ensures S (i .0) (i .1))
+    let t = c in
+    let e = t .before .before in
+    let h = e .before .before in
+    let k = h .before .before .before .before .before in
+    let l = k .before in
+    let s = l .before .before .before in
+    let i = l .loop .inv .0 S going p in
+    rw (t .enum-told2 .given .1) at (round-ends (i .0 .given) (s .pre .0) (l .loop .heeded) (h .pass .last .1 .1 .1 .1 .1 .0) (l .loop .steps) (l .loop .levels) (h .pass .last .1 .1 .1 .1 .1 .1 .0) (h .pass .last .1 .1 .1 .1 .1 .1 .1 .0) (k .mode-of .result .whole) (i .1) (e .turn-after .ensures) (h .pass .ensures S (i .0) (i .1)))
 
 heed-requires : tie.Need-heed-requires Inv-loop μ-loop
 heed-requires c κs =
     let t = c .before .before .before in
     let e = t .before .before in
-    let k = e .before .before .before .before .before in
+    let h = e .before .before in
+    let k = h .before .before .before .before .before in
     let l = k .before in
-    let p = l .before .before .before .pre in
-    let i = l .loop .inv .0 (p .1 .0) (p .1 .1) (p .1 .2) in
-    let x = rw (t .enum-told3 .given .1) at (e .round .ensures (p .1 .0) (i .0) (i .1)) in
-    ((p .1 .0, _, x .going .given, x .going .timed), (p .0, (x .going .heeding, x .fails)))
+    let s = l .before .before .before in
+    let p = s .pre .1 in
+    let i = l .loop .inv .0 (p .0) (p .1) (p .2) in
+    let x = rw (t .enum-told3 .given .1) at (round-ends (i .0 .given) (s .pre .0) (l .loop .heeded) (h .pass .last .1 .1 .1 .1 .1 .0) (l .loop .steps) (l .loop .levels) (h .pass .last .1 .1 .1 .1 .1 .1 .0) (h .pass .last .1 .1 .1 .1 .1 .1 .1 .0) (k .mode-of .result .whole) (i .1) (e .turn-after .ensures) (h .pass .ensures (p .0) (i .0) (i .1))) in
+    ((p .0, _, x .going .given, x .going .timed), (s .pre .0, (x .going .heeding, x .fails)))
 
 returns-3 : tie.Need-returns-3 Inv-loop μ-loop
 returns-3 c S going p =
-    let h = c .before in
-    let t = h .before .before .before .before in
+    let f = c .before in
+    let t = f .before .before .before .before in
     let e = t .before .before in
-    let i = e .before .before .before .before .before .before .loop .inv .0 S going p in
-    let x = rw (t .enum-told3 .given .1) at (e .round .ensures S (i .0) (i .1)) in
-    let y = rw (not-true (h .heed .result) (c .if1 .taken)) at (h .heed .ensures) in
-    round-floats x (y .0) (y .1) (y .2)
+    let h = e .before .before in
+    let k = h .before .before .before .before .before in
+    let l = k .before in
+    let s = l .before .before .before in
+    let i = l .loop .inv .0 S going p in
+    let x = rw (t .enum-told3 .given .1) at (round-ends (i .0 .given) (s .pre .0) (l .loop .heeded) (h .pass .last .1 .1 .1 .1 .1 .0) (l .loop .steps) (l .loop .levels) (h .pass .last .1 .1 .1 .1 .1 .1 .0) (h .pass .last .1 .1 .1 .1 .1 .1 .1 .0) (k .mode-of .result .whole) (i .1) (e .turn-after .ensures) (h .pass .ensures S (i .0) (i .1))) in
+    let y = rw (not-true (f .heed .result) (c .if1 .taken)) at (f .heed .ensures) in
+    round-floats x (k .mode-of .ensures .1 (y .3)) (y .0) (y .1) (y .2)
 
 sweep-requires : tie.Need-sweep-requires Inv-loop μ-loop
 sweep-requires c κs =
     let q = c .before .before .before in
-    let h = q .before in
-    let t = h .before .before .before .before in
+    let f = q .before in
+    let t = f .before .before .before .before in
     let e = t .before .before in
-    let k = e .before .before .before .before .before in
+    let h = e .before .before in
+    let k = h .before .before .before .before .before in
     let l = k .before in
-    let p = l .before .before .before .pre in
-    let i = l .loop .inv .0 (p .1 .0) (p .1 .1) (p .1 .2) in
-    let x = rw (t .enum-told3 .given .1) at (e .round .ensures (p .1 .0) (i .0) (i .1)) in
-    let y = rw (not-false (h .heed .result) (q .if1 .left)) at (h .heed .ensures) in
-    (p .1 .0, round-sweepable x y)
+    let s = l .before .before .before in
+    let p = s .pre .1 in
+    let i = l .loop .inv .0 (p .0) (p .1) (p .2) in
+    let x = rw (t .enum-told3 .given .1) at (round-ends (i .0 .given) (s .pre .0) (l .loop .heeded) (h .pass .last .1 .1 .1 .1 .1 .0) (l .loop .steps) (l .loop .levels) (h .pass .last .1 .1 .1 .1 .1 .1 .0) (h .pass .last .1 .1 .1 .1 .1 .1 .1 .0) (k .mode-of .result .whole) (i .1) (e .turn-after .ensures) (h .pass .ensures (p .0) (i .0) (i .1))) in
+    let y = rw (not-false (f .heed .result) (q .if1 .left)) at (f .heed .ensures) in
+    (p .0, round-sweepable x y)
 
 returns-4 : tie.Need-returns-4 Inv-loop μ-loop
 returns-4 c S going p =
     let w = c .before in
     let q = w .before .before .before .before in
-    let h = q .before in
-    let t = h .before .before .before .before in
+    let f = q .before in
+    let t = f .before .before .before .before in
     let e = t .before .before in
-    let i = e .before .before .before .before .before .before .loop .inv .0 S going p in
-    let x = rw (t .enum-told3 .given .1) at (e .round .ensures S (i .0) (i .1)) in
-    let y = rw (not-false (h .heed .result) (q .if1 .left)) at (h .heed .ensures) in
+    let h = e .before .before in
+    let k = h .before .before .before .before .before in
+    let l = k .before in
+    let s = l .before .before .before in
+    let i = l .loop .inv .0 S going p in
+    let x = rw (t .enum-told3 .given .1) at (round-ends (i .0 .given) (s .pre .0) (l .loop .heeded) (h .pass .last .1 .1 .1 .1 .1 .0) (l .loop .steps) (l .loop .levels) (h .pass .last .1 .1 .1 .1 .1 .1 .0) (h .pass .last .1 .1 .1 .1 .1 .1 .1 .0) (k .mode-of .result .whole) (i .1) (e .turn-after .ensures) (h .pass .ensures S (i .0) (i .1))) in
+    let y = rw (not-false (f .heed .result) (q .if1 .left)) at (f .heed .ensures) in
     rw (not-true (w .sweep .result) (c .if2 .taken)) at (w .sweep .ensures S (round-sweepable x y))
 
 mul-next-test : tie.Need-mul-next-test Inv-loop μ-loop
@@ -100,67 +131,73 @@ mul-next-test c =
     let z = c .before in
     let w = z .before in
     let q = w .before .before .before .before in
-    let h = q .before in
-    let t = h .before .before .before .before in
+    let f = q .before in
+    let t = f .before .before .before .before in
     let e = t .before .before in
-    let k = e .before .before .before .before .before in
+    let h = e .before .before in
+    let k = h .before .before .before .before .before in
     let l = k .before in
-    let p = l .before .before .before .pre in
-    let i = l .loop .inv .0 (p .1 .0) (p .1 .1) (p .1 .2) in
-    let x = rw (t .enum-told3 .given .1) at (e .round .ensures (p .1 .0) (i .0) (i .1)) in
-    let y = rw (not-false (h .heed .result) (q .if1 .left)) at (h .heed .ensures) in
-    let v = rw (not-false (w .sweep .result) (z .if2 .left)) at (w .sweep .ensures (p .1 .0) (round-sweepable x y)) in
-    let f = round-tested x y _ _ v (l .loop .rounds) (l .loop .next-test) (l .loop .inv .1) (eqb-true _ _ (sym (k .look-after .ensures) ∙ c .if3 .taken)) (c .if3 .taken) .fits in
+    let s = l .before .before .before in
+    let p = s .pre .1 in
+    let i = l .loop .inv .0 (p .0) (p .1) (p .2) in
+    let x = rw (t .enum-told3 .given .1) at (round-ends (i .0 .given) (s .pre .0) (l .loop .heeded) (h .pass .last .1 .1 .1 .1 .1 .0) (l .loop .steps) (l .loop .levels) (h .pass .last .1 .1 .1 .1 .1 .1 .0) (h .pass .last .1 .1 .1 .1 .1 .1 .1 .0) (k .mode-of .result .whole) (i .1) (e .turn-after .ensures) (h .pass .ensures (p .0) (i .0) (i .1))) in
+    let y = rw (not-false (f .heed .result) (q .if1 .left)) at (f .heed .ensures) in
+    let v = rw (not-false (w .sweep .result) (z .if2 .left)) at (w .sweep .ensures (p .0) (round-sweepable x y)) in
+    let n = round-tested x y _ _ v (l .loop .rounds) (l .loop .next-test) (l .loop .inv .1) (eqb-true _ _ (sym (k .mode-of .ensures .0) ∙ c .if3 .taken)) (c .if3 .taken) .fits in
     search needs
 
 loop-less : tie.Need-loop-less Inv-loop μ-loop
-loop-less c = few-left _ _ _ _ (c .before .before .before .before .before .before .before .before .before .before .before .before .before .before .before .before .before .before .before .loop .inv .1)
+loop-less c = few-left _ _ _ _ (c .before .before .before .before .before .before .before .before .before .before .before .before .before .before .before .before .before .before .before .before .before .loop .inv .1)
 
 loop-again : tie.Need-loop-again Inv-loop μ-loop
 loop-again c =
     let z = c .before in
     let w = z .before in
     let q = w .before .before .before .before in
-    let h = q .before in
-    let t = h .before .before .before .before in
+    let f = q .before in
+    let t = f .before .before .before .before in
     let e = t .before .before in
-    let k = e .before .before .before .before .before in
+    let h = e .before .before in
+    let k = h .before .before .before .before .before in
     let l = k .before in
-    let p = l .before .before .before .pre in
-    let i = l .loop .inv .0 (p .1 .0) (p .1 .1) (p .1 .2) in
-    let x = rw (t .enum-told3 .given .1) at (e .round .ensures (p .1 .0) (i .0) (i .1)) in
-    let y = rw (not-false (h .heed .result) (q .if1 .left)) at (h .heed .ensures) in
-    let v = rw (not-false (w .sweep .result) (z .if2 .left)) at (w .sweep .ensures (p .1 .0) (round-sweepable x y)) in (
+    let s = l .before .before .before in
+    let p = s .pre .1 in
+    let i = l .loop .inv .0 (p .0) (p .1) (p .2) in
+    let x = rw (t .enum-told3 .given .1) at (round-ends (i .0 .given) (s .pre .0) (l .loop .heeded) (h .pass .last .1 .1 .1 .1 .1 .0) (l .loop .steps) (l .loop .levels) (h .pass .last .1 .1 .1 .1 .1 .1 .0) (h .pass .last .1 .1 .1 .1 .1 .1 .1 .0) (k .mode-of .result .whole) (i .1) (e .turn-after .ensures) (h .pass .ensures (p .0) (i .0) (i .1))) in
+    let y = rw (not-false (f .heed .result) (q .if1 .left)) at (f .heed .ensures) in
+    let v = rw (not-false (w .sweep .result) (z .if2 .left)) at (w .sweep .ensures (p .0) (round-sweepable x y)) in (
       λ S going r.
           let j = l .loop .inv .0 S going r in
-          let a = rw (t .enum-told3 .given .1) at (e .round .ensures S (j .0) (j .1)) in
+          let a = rw (t .enum-told3 .given .1) at (round-ends (j .0 .given) (s .pre .0) (l .loop .heeded) (h .pass .last .1 .1 .1 .1 .1 .0) (l .loop .steps) (l .loop .levels) (h .pass .last .1 .1 .1 .1 .1 .1 .0) (h .pass .last .1 .1 .1 .1 .1 .1 .1 .0) (k .mode-of .result .whole) (j .1) (e .turn-after .ensures) (h .pass .ensures S (j .0) (j .1))) in
           round-going a y _ _ (rw (not-false (w .sweep .result) (z .if2 .left)) at (w .sweep .ensures S (round-sweepable a y))),
-      round-tested x y _ _ v (l .loop .rounds) (l .loop .next-test) (l .loop .inv .1) (eqb-true _ _ (sym (k .look-after .ensures) ∙ c .if3 .taken)) (c .if3 .taken),
+      round-tested x y _ _ v (l .loop .rounds) (l .loop .next-test) (l .loop .inv .1) (eqb-true _ _ (sym (k .mode-of .ensures .0) ∙ c .if3 .taken)) (c .if3 .taken),
     )
 
 loop-less-2 : tie.Need-loop-less-2 Inv-loop μ-loop
-loop-less-2 c = few-left _ _ _ _ (c .before .before .before .before .before .before .before .before .before .before .before .before .before .before .before .before .before .before .before .loop .inv .1)
+loop-less-2 c = few-left _ _ _ _ (c .before .before .before .before .before .before .before .before .before .before .before .before .before .before .before .before .before .before .before .before .before .loop .inv .1)
 
 loop-again-2 : tie.Need-loop-again-2 Inv-loop μ-loop
 loop-again-2 c =
     let z = c .before in
     let w = z .before in
     let q = w .before .before .before .before in
-    let h = q .before in
-    let t = h .before .before .before .before in
+    let f = q .before in
+    let t = f .before .before .before .before in
     let e = t .before .before in
-    let k = e .before .before .before .before .before in
+    let h = e .before .before in
+    let k = h .before .before .before .before .before in
     let l = k .before in
-    let p = l .before .before .before .pre in
-    let i = l .loop .inv .0 (p .1 .0) (p .1 .1) (p .1 .2) in
-    let x = rw (t .enum-told3 .given .1) at (e .round .ensures (p .1 .0) (i .0) (i .1)) in
-    let y = rw (not-false (h .heed .result) (q .if1 .left)) at (h .heed .ensures) in
-    let v = rw (not-false (w .sweep .result) (z .if2 .left)) at (w .sweep .ensures (p .1 .0) (round-sweepable x y)) in (
+    let s = l .before .before .before in
+    let p = s .pre .1 in
+    let i = l .loop .inv .0 (p .0) (p .1) (p .2) in
+    let x = rw (t .enum-told3 .given .1) at (round-ends (i .0 .given) (s .pre .0) (l .loop .heeded) (h .pass .last .1 .1 .1 .1 .1 .0) (l .loop .steps) (l .loop .levels) (h .pass .last .1 .1 .1 .1 .1 .1 .0) (h .pass .last .1 .1 .1 .1 .1 .1 .1 .0) (k .mode-of .result .whole) (i .1) (e .turn-after .ensures) (h .pass .ensures (p .0) (i .0) (i .1))) in
+    let y = rw (not-false (f .heed .result) (q .if1 .left)) at (f .heed .ensures) in
+    let v = rw (not-false (w .sweep .result) (z .if2 .left)) at (w .sweep .ensures (p .0) (round-sweepable x y)) in (
       λ S going r.
           let j = l .loop .inv .0 S going r in
-          let a = rw (t .enum-told3 .given .1) at (e .round .ensures S (j .0) (j .1)) in
+          let a = rw (t .enum-told3 .given .1) at (round-ends (j .0 .given) (s .pre .0) (l .loop .heeded) (h .pass .last .1 .1 .1 .1 .1 .0) (l .loop .steps) (l .loop .levels) (h .pass .last .1 .1 .1 .1 .1 .1 .0) (h .pass .last .1 .1 .1 .1 .1 .1 .1 .0) (k .mode-of .result .whole) (j .1) (e .turn-after .ensures) (h .pass .ensures S (j .0) (j .1))) in
           round-going a y _ _ (rw (not-false (w .sweep .result) (z .if2 .left)) at (w .sweep .ensures S (round-sweepable a y))),
-      round-more x y _ _ v (l .loop .rounds) (l .loop .next-test) (l .loop .inv .1) (eqb-false _ _ (sym (k .look-after .ensures) ∙ c .if3 .left)),
+      round-more x y _ _ v (l .loop .rounds) (l .loop .next-test) (l .loop .inv .1) (eqb-false _ _ (sym (k .mode-of .ensures .0) ∙ c .if3 .left)),
     )
 
 pub relax-spec : {M : Type 1} → statement M
@@ -172,7 +209,8 @@ relax-spec =
     loop-holds
     add-rounds
     (λ c κs. search needs)
-    round-requires
+    pass-requires
+    turn-after-requires
     (λ c. search needs)
     returns
     (λ c. search needs)
