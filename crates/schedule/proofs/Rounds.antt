@@ -50,8 +50,9 @@ use Rattle.hold.proofs.HoldMarks.{not-both}
 use Rattle.pass.specs.Turn.{Passed}
 use Rattle.pass.specs.declared.Course.{Course}
 use Rattle.schedule.specs.declared.labels.Turn.{Turn}
+use Rattle.schedule.specs.declared.labels.Turn.the-variants as Is
 use Rattle.sweep.specs.Sweep.{AllHold, SomeFails, Sweepable, SweepEnds}
-use Rattle.schedule.specs.Round.{First, GoesOn, TurnEnds, was-late, was-stopped, was-last, goes-on, RoundEnds, Heeds, Relaxed, stepsIn, stepsMost, heldMost, roundsMost}
+use Rattle.schedule.specs.Round.{First, TurnEnds, was-late, was-stopped, was-last, goes-on, Heeds, Relaxed, stepsIn, stepsMost, heldMost, roundsMost}
 
 -- the first labels, one node after the other: none yet, and one more
 pub first-none : {graph steps levels : List ℕ} {horizon : ℕ} → steps ≡ replicate 256 0 → levels ≡ replicate 256 0 → First graph steps levels 0 horizon
@@ -284,6 +285,21 @@ module _ (limits : R.Header) (h p k rounds next : ℕ) (few : Few limits h round
   few-tested : rounds + 1 ≡ next → p ≤ heldMost limits → p < 2147483647 → Few limits k (rounds + 1) (next * 2)
   few-tested e b s =
       record { risen = omega (arith, few .risen); early = omega arith; near = omega (arith, few .risen); fits = omega (arith, few .risen) }
+
+-- after a pass that goes on a difference fails, and the steps have not fallen; where it was whole every node keeps its other conditions
+pub record GoesOn (S : Sheet) (graph differences : List ℕ) (limits : R.Header) (first heeded next kept steps steps' levels' : List ℕ) (whole : Bool) : Type 0 where
+  pub going : Going S graph differences limits heeded next kept steps' levels'
+  pub pass : Pass S (labelIn steps' levels') 0
+  pub settled : whole ≡ true → Pass S (labelIn steps' levels') (size S)
+  pub fails : SomeFails differences first steps' (limits .differences)
+  pub grown : stepsIn (limits .nodes) steps ≤ stepsIn (limits .nodes) steps'
+
+-- least: the labels are the least legal ones. late: nothing is legal within the horizon. again: they go on
+abbrev pub RoundEnds : (S : Sheet) (graph differences : List ℕ) (limits : R.Header) (first heeded next kept steps steps' levels' : List ℕ) (whole : Bool) → Turn → Type 0
+RoundEnds S graph differences limits first heeded next kept steps steps' levels' whole Is.Least = Least S (S .horizon) (labelIn steps' levels')
+RoundEnds S graph differences limits first heeded next kept steps steps' levels' whole Is.Late = NoneLegal S
+RoundEnds S graph differences limits first heeded next kept steps steps' levels' whole Is.Again =
+    GoesOn S graph differences limits first heeded next kept steps steps' levels' whole
 
 -- what a pass says by its course and by whether the differences hold
 module _ {S : Sheet} {graph differences : List ℕ} {limits : R.Header} (g : Given S graph differences limits) {first next : List ℕ}

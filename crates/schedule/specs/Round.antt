@@ -1,4 +1,4 @@
--- What the start, a round, what is heeded after it, and all rounds answer.
+-- What the start, the turn after a pass, what is heeded then, and all rounds answer.
 use Prim.Native.Nat.{ℕ, suc, zero, _+_, _-_, _*_, _≤_, _<_}
 use mathlib.Core.Path.{_≡_}
 use mathlib.Core.Bool.{Bool, true}
@@ -49,27 +49,12 @@ heldMost limits = limits .nodes * ((limits .nodes - 1) * weightMost)
 abbrev pub roundsMost : R.Header → ℕ
 roundsMost limits = heldMost limits + heldMost limits + 2
 
--- after a pass that goes on a difference fails, and the steps have not fallen; where it was whole every node keeps its other conditions
-pub record GoesOn (S : Sheet) (graph differences : List ℕ) (limits : R.Header) (first heeded next kept steps steps' levels' : List ℕ) (whole : Bool) : Type 0 where
-  pub going : Going S graph differences limits heeded next kept steps' levels'
-  pub pass : Pass S (labelIn steps' levels') 0
-  pub settled : whole ≡ true → Pass S (labelIn steps' levels') (size S)
-  pub fails : SomeFails differences first steps' (limits .differences)
-  pub grown : stepsIn (limits .nodes) steps ≤ stepsIn (limits .nodes) steps'
-
 -- what a pass of each course comes to
 pub data TurnEnds (differences first steps : List ℕ) (m : ℕ) : Course → Turn → Type 0 where
   was-late : TurnEnds differences first steps m Ran.Late Is.Late
   was-stopped : TurnEnds differences first steps m Ran.Stopped Is.Again
   was-last : AllHold differences first steps m → TurnEnds differences first steps m Ran.Whole Is.Least
   goes-on : SomeFails differences first steps m → TurnEnds differences first steps m Ran.Whole Is.Again
-
--- least: the labels are the least legal ones. late: nothing is legal within the horizon. again: they go on
-abbrev pub RoundEnds : (S : Sheet) (graph differences : List ℕ) (limits : R.Header) (first heeded next kept steps steps' levels' : List ℕ) (whole : Bool) → Turn → Type 0
-RoundEnds S graph differences limits first heeded next kept steps steps' levels' whole Is.Least = Least S (S .horizon) (labelIn steps' levels')
-RoundEnds S graph differences limits first heeded next kept steps steps' levels' whole Is.Late = NoneLegal S
-RoundEnds S graph differences limits first heeded next kept steps steps' levels' whole Is.Again =
-    GoesOn S graph differences limits first heeded next kept steps steps' levels' whole
 
 -- some differences are heeded, of which one fails; where the test was asked for every node is held
 pub record Heeds (graph differences : List ℕ) (limits : R.Header) (next steps heeded : List ℕ) (test : Bool) : Type 0 where
