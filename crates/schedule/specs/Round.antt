@@ -5,14 +5,12 @@ use mathlib.Core.Bool.{Bool, true}
 use mathlib.Core.List.{List}
 use lib.ListN.{length, getD}
 use Rattle.maps.specs.Limits.{weightMost}
-use Rattle.maps.specs.Sheet.{Sheet, size}
+use Rattle.maps.specs.Sheet.{Sheet}
 use Rattle.maps.specs.Legal.{Least, NoneLegal}
 use Rattle.rows.specs.Table.{delayIn, latencyIn}
 use Rattle.rows.specs.declared.Header as R
 use Rattle.rows.specs.Cells.{Ends}
-use Rattle.relax.specs.Settle.{Pass}
 use Rattle.bound.specs.Lookup.{labelIn, Heeding}
-use Rattle.bound.specs.Going.{Going}
 use Rattle.hold.specs.Mark.{HeldIn}
 use Rattle.sweep.specs.Sweep.{AllHold, SomeFails}
 use Rattle.pass.specs.declared.Course.{Course}
