@@ -59,7 +59,7 @@ pub struct Mode {
 const WHOLE_UP_TO: u32 = 4;
 
 // The rounds after which nodes are frozen. Fewer settle most sheets, and there freezing only adds to them.
-const FREEZE_FROM: u32 = 64;
+const FREEZE_FROM: u32 = 512;
 
 // How a round is done: with a test where it is due, and then whole.
 pub fn mode_of(round: u32, due: u32) -> Mode
