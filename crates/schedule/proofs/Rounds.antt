@@ -261,7 +261,7 @@ module _ {S : Sheet} {graph differences : List ℕ} {limits : R.Header} (g : Giv
 
 -- What ends the rounds: every round but the last moves a step, in the sweep after it, and steps are bounded. So the rounds so far are no more than
 -- the sum of the steps; and at the last test, when every node was held, that sum was no more than held nodes can have. The next test comes after
--- twice as many rounds. So twice that sum, and two, are the most rounds, whatever the horizon.
+-- at most twice as many rounds. So twice that sum, and two, are the most rounds, whatever the horizon.
 pub record Few (limits : R.Header) (steps rounds next : ℕ) : Type 0 where
   pub risen : rounds ≤ steps
   pub early : rounds < next
@@ -282,8 +282,8 @@ module _ (limits : R.Header) (h p k rounds next : ℕ) (few : Few limits h round
   few-more : (rounds + 1 ≡ next → ⊥) → Few limits k (rounds + 1) next
   few-more n = record { risen = omega (arith, few .risen); early = omega (arith, few .early, n); near = few .near; fits = few .fits }
 
-  few-tested : rounds + 1 ≡ next → p ≤ heldMost limits → p < 2147483647 → Few limits k (rounds + 1) (next * 2)
-  few-tested e b s =
+  few-tested : rounds + 1 ≡ next → p ≤ heldMost limits → p < 2147483647 → (later : ℕ) → next < later → later ≤ next + next → Few limits k (rounds + 1) later
+  few-tested e b s later l m =
       record { risen = omega (arith, few .risen); early = omega arith; near = omega (arith, few .risen); fits = omega (arith, few .risen) }
 
 -- after a pass that goes on a difference fails, and the steps have not fallen; where it was whole every node keeps its other conditions
@@ -352,16 +352,20 @@ module _ {S : Sheet} {graph differences : List ℕ} {limits : R.Header} {first h
       pub round-going : Going S graph differences limits heeded next kept steps′ levels′ × Pass S (labelIn steps′ levels′) 0
       round-going = (record { given = x .going .given; heeding = y .heeding; allKept = x .going .allKept; timed = z .0 }, z .1 .pass)
 
-      module _ (rounds next-test : ℕ) (few : Few limits (stepsIn (limits .nodes) steps₀) rounds next-test) where
+      module _ (rounds due : ℕ) (few : Few limits (stepsIn (limits .nodes) steps₀) rounds due) where
         moved : stepsIn (limits .nodes) steps < stepsIn (limits .nodes) steps′
         moved = sweep-most (x .going .given) steps levels steps′ levels′ heeded (z .1) (y .fails)
 
-        pub round-more : (rounds + 1 ≡ next-test → ⊥) → Few limits (stepsIn (limits .nodes) steps′) (rounds + 1) next-test
-        round-more = few-more limits _ (stepsIn (limits .nodes) steps) _ rounds next-test few (x .grown) moved
+        pub round-more : (rounds + 1 ≡ due → ⊥) → Few limits (stepsIn (limits .nodes) steps′) (rounds + 1) due
+        round-more = few-more limits _ (stepsIn (limits .nodes) steps) _ rounds due few (x .grown) moved
 
-        pub round-tested : rounds + 1 ≡ next-test → test ≡ true → Few limits (stepsIn (limits .nodes) steps′) (rounds + 1) (next-test * 2)
+        -- a test is not so late that twice as many rounds are no number of the code's
+        pub round-fits : rounds + 1 ≡ due → due < 2147483648
+        round-fits e = omega (arith, few .risen, x .grown, timed-most (x .going .given) steps levels (x .going .timed), most-fits (x .going .given))
+
+        pub round-tested : rounds + 1 ≡ due → test ≡ true → (later : ℕ) → due < later → later ≤ due + due → Few limits (stepsIn (limits .nodes) steps′) (rounds + 1) later
         round-tested e t =
-            few-tested limits _ (stepsIn (limits .nodes) steps) _ rounds next-test few (x .grown) moved e (held-most (x .going .given) steps levels (y .held t))
+            few-tested limits _ (stepsIn (limits .nodes) steps) _ rounds due few (x .grown) moved e (held-most (x .going .given) steps levels (y .held t))
             (omega (arith, timed-most (x .going .given) steps levels (x .going .timed), most-fits (x .going .given)))
 
 -- the least labels are those of the tables, node by node

@@ -100,6 +100,17 @@ pub fn start(graph: &Graph, steps: &mut Steps, levels: &mut Levels, n: u32, hori
     true
 }
 
+// The round after which the next test comes: the second, the third and the fourth, then each twice as late as the one before.
+pub fn next_due(due: u32) -> u32
+    requires { ⌜ (0 < due) × (due < 2147483648) ⌝ }
+    ensures { λ r. ⌜ (due < r) × (r ≤ due + due) ⌝ }
+{
+    if due < 4 {
+        return due + 1;
+    }
+    due + due
+}
+
 // What the course of a pass comes to: it was the last where it was whole and every difference holds.
 pub fn turn_after(
     course: Course,
@@ -163,7 +174,7 @@ pub fn heed(
     true
 }
 
-// Rounds until one is the last, with a sweep after each, and the floating-set test after 2, 4, 8, .. of them.
+// Rounds until one is the last, with a sweep after each, and the floating-set test after 2, 3, 4, 8, 16, .. of them.
 pub fn relax(
     graph: &Graph,
     differences: &Differences,
@@ -181,10 +192,10 @@ pub fn relax(
     let mut heeded = *first;
     let mut since = *steps;
     let mut rounds: u32 = 0;
-    let mut next_test: u32 = 2;
+    let mut due: u32 = 2;
     loop {
         rounds += 1;
-        let mode = mode_of(rounds, next_test);
+        let mode = mode_of(rounds, due);
         let course = pass(
             graph,
             differences,
@@ -219,7 +230,7 @@ pub fn relax(
             return false;
         }
         if mode.test {
-            next_test *= 2;
+            due = next_due(due);
         }
     }
 }

@@ -2,6 +2,7 @@
 -- there can still be, whatever the horizon.
 use borrow.Author.Needs.{needs}
 use borrow.Author.Tests.{eqb-true, eqb-false, not-true, not-false}
+use native.Mathlib.Omega.{arith}
 use Prim.Native.Nat.{_-_}
 use mathlib.Core.Path.{sym, _∙_}
 use Rattle.maps.specs.Sheet.{Sheet}
@@ -10,7 +11,7 @@ use Rattle.bound.specs.Lookup.{labelIn}
 use Rattle.bound.specs.Going.{Going}
 use Rattle.bound.proofs.Safety.{few-differences, summed-all}
 use Rattle.schedule.specs.Round.{stepsIn, roundsMost}
-use Rattle.schedule.proofs.Rounds.{Few, few-left, few-none, round-ends, round-floats, round-sweepable, round-going, round-more, round-tested}
+use Rattle.schedule.proofs.Rounds.{Few, few-left, few-none, round-ends, round-floats, round-sweepable, round-going, round-more, round-fits, round-tested}
 use Rattle.schedule.proofs.labels.relax.Statement.{statement}
 use Rattle.schedule.proofs.labels.relax.Tie as tie
 
@@ -126,8 +127,8 @@ returns-4 c S going p =
     let y = rw (not-false (f .heed .result) (q .if1 .left)) at (f .heed .ensures) in
     rw (not-true (w .sweep .result) (c .if2 .taken)) at (w .sweep .ensures S (round-sweepable x y))
 
-mul-next-test : tie.Need-mul-next-test Inv-loop μ-loop
-mul-next-test c =
+next-due-requires : tie.Need-next-due-requires Inv-loop μ-loop
+next-due-requires c κs =
     let z = c .before in
     let w = z .before in
     let q = w .before .before .before .before in
@@ -143,15 +144,16 @@ mul-next-test c =
     let x = rw (t .enum-told3 .given .1) at (round-ends (i .0 .given) (s .pre .0) (l .loop .heeded) (h .pass .last .1 .1 .1 .1 .1 .0) (l .loop .steps) (l .loop .levels) (h .pass .last .1 .1 .1 .1 .1 .1 .0) (h .pass .last .1 .1 .1 .1 .1 .1 .1 .0) (k .mode-of .result .whole) (i .1) (e .turn-after .ensures) (h .pass .ensures (p .0) (i .0) (i .1))) in
     let y = rw (not-false (f .heed .result) (q .if1 .left)) at (f .heed .ensures) in
     let v = rw (not-false (w .sweep .result) (z .if2 .left)) at (w .sweep .ensures (p .0) (round-sweepable x y)) in
-    let n = round-tested x y _ _ v (l .loop .rounds) (l .loop .next-test) (l .loop .inv .1) (eqb-true _ _ (sym (k .mode-of .ensures .0) ∙ c .if3 .taken)) (c .if3 .taken) .fits in
-    search needs
+    let n = round-fits x y _ _ v (l .loop .rounds) (l .loop .due) (l .loop .inv .1) (eqb-true _ _ (sym (k .mode-of .ensures .0) ∙ c .if3 .taken)) in
+    (omega (arith, l .loop .inv .1 .early), n)
 
 loop-less : tie.Need-loop-less Inv-loop μ-loop
-loop-less c = few-left _ _ _ _ (c .before .before .before .before .before .before .before .before .before .before .before .before .before .before .before .before .before .before .before .before .before .loop .inv .1)
+loop-less c = few-left _ _ _ _ (c .before .before .before .before .before .before .before .before .before .before .before .before .before .before .before .before .before .before .before .before .before .before .loop .inv .1)
 
 loop-again : tie.Need-loop-again Inv-loop μ-loop
 loop-again c =
-    let z = c .before in
+    let o = c .before in
+    let z = o .before in
     let w = z .before in
     let q = w .before .before .before .before in
     let f = q .before in
@@ -170,7 +172,7 @@ loop-again c =
           let j = l .loop .inv .0 S going r in
           let a = rw (t .enum-told3 .given .1) at (round-ends (j .0 .given) (s .pre .0) (l .loop .heeded) (h .pass .last .1 .1 .1 .1 .1 .0) (l .loop .steps) (l .loop .levels) (h .pass .last .1 .1 .1 .1 .1 .1 .0) (h .pass .last .1 .1 .1 .1 .1 .1 .1 .0) (k .mode-of .result .whole) (j .1) (e .turn-after .ensures) (h .pass .ensures S (j .0) (j .1))) in
           round-going a y _ _ (rw (not-false (w .sweep .result) (z .if2 .left)) at (w .sweep .ensures S (round-sweepable a y))),
-      round-tested x y _ _ v (l .loop .rounds) (l .loop .next-test) (l .loop .inv .1) (eqb-true _ _ (sym (k .mode-of .ensures .0) ∙ c .if3 .taken)) (c .if3 .taken),
+      round-tested x y _ _ v (l .loop .rounds) (l .loop .due) (l .loop .inv .1) (eqb-true _ _ (sym (k .mode-of .ensures .0) ∙ o .if3 .taken)) (o .if3 .taken) (c .next-due .result) (c .next-due .ensures .0) (c .next-due .ensures .1),
     )
 
 loop-less-2 : tie.Need-loop-less-2 Inv-loop μ-loop
@@ -197,7 +199,7 @@ loop-again-2 c =
           let j = l .loop .inv .0 S going r in
           let a = rw (t .enum-told3 .given .1) at (round-ends (j .0 .given) (s .pre .0) (l .loop .heeded) (h .pass .last .1 .1 .1 .1 .1 .0) (l .loop .steps) (l .loop .levels) (h .pass .last .1 .1 .1 .1 .1 .1 .0) (h .pass .last .1 .1 .1 .1 .1 .1 .1 .0) (k .mode-of .result .whole) (j .1) (e .turn-after .ensures) (h .pass .ensures S (j .0) (j .1))) in
           round-going a y _ _ (rw (not-false (w .sweep .result) (z .if2 .left)) at (w .sweep .ensures S (round-sweepable a y))),
-      round-more x y _ _ v (l .loop .rounds) (l .loop .next-test) (l .loop .inv .1) (eqb-false _ _ (sym (k .mode-of .ensures .0) ∙ c .if3 .left)),
+      round-more x y _ _ v (l .loop .rounds) (l .loop .due) (l .loop .inv .1) (eqb-false _ _ (sym (k .mode-of .ensures .0) ∙ c .if3 .left)),
     )
 
 pub relax-spec : {M : Type 1} → statement M
@@ -220,7 +222,7 @@ relax-spec =
     returns-3
     sweep-requires
     returns-4
-    mul-next-test
+    next-due-requires
     loop-less
     loop-again
     loop-less-2
