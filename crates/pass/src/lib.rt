@@ -23,7 +23,7 @@ use rows::Differences;
 use rows::Graph;
 use rows::Header;
 use rows::kind_in;
-use sweep::pulls_below;
+use sweep::some_fails_below;
 
 // What a pass comes to. It stops where it is not to be whole and a difference that it has broken leads back to a node that had its turn.
 pub enum Course {
@@ -108,7 +108,7 @@ pub fn leads_back(
     if own.0 <= was.0 {
         return false;
     }
-    pulls_below(differences, first, steps, m, v)
+    some_fails_below(differences, first, steps, m, v)
 }
 
 // Settles every node in id order, unless one ends after the horizon. Where `whole` is not set it stops as soon as a node's rise leads back.

@@ -83,7 +83,7 @@ pub fn fails_below(
 }
 
 // Whether a heeded difference from v to a lower node does not hold.
-pub fn pulls_below(
+pub fn some_fails_below(
     differences: &Differences,
     first: &[u32; 256],
     steps: &Steps,

@@ -1,11 +1,11 @@
--- `pulls_below` meets its contract. The loop's invariant: none of the differences below i is one that fails below v.
+-- `some_fails_below` meets its contract. The loop's invariant: none of the differences below i is one that fails below v.
 use borrow.Author.Needs.{needs}
 use borrow.Author.Count.{below-none, below-more}
 use native.Mathlib.Omega.{arith}
 use Prim.Native.Nat.{ℕ, _-_, _≤_, _<_}
 use Rattle.sweep.specs.Sweep.{FailsBelow}
-use Rattle.sweep.proofs.pulls_below.Statement.{statement}
-use Rattle.sweep.proofs.pulls_below.Tie as tie
+use Rattle.sweep.proofs.some_fails_below.Statement.{statement}
+use Rattle.sweep.proofs.some_fails_below.Tie as tie
 
 abbrev Inv-loop : tie.InvT-loop
 Inv-loop differences first steps m v i₀ i = (i ≤ m) × ((j : ℕ) → j < i → FailsBelow differences first steps v j → ⊥)
@@ -36,8 +36,8 @@ loop-again c =
 returns-2 : tie.Need-returns-2 Inv-loop μ-loop
 returns-2 c i l = let t = c .loop-test .left in c .before .loop .inv .1 i (omega arith)
 
-pub pulls-below-spec : {M : Type 1} → statement M
-pulls-below-spec =
+pub some-fails-below-spec : {M : Type 1} → statement M
+some-fails-below-spec =
     tie.close
     (tie.spec
     Inv-loop
