@@ -30,7 +30,6 @@ use Rattle.level.specs.Cuts.{Lowest}
 use Rattle.schedule.proofs.Exact.{labels-exact}
 use Rattle.maps.specs.Limits.{leavesRange, horizonRange}
 use Rattle.cover.specs.Cover.{Covered}
-use Rattle.planner.specs.Call.{Answered}
 use Rattle.writing.specs.Bytes.{Small, flatPlan}
 use Rattle.writing.proofs.PlanBytes.{plan-bytes}
 
@@ -143,25 +142,3 @@ refused-outcome bytes k p e room = ap (parsed room) e
 pub sheet-outcome : (bytes : List ℕ) (S : Sheet) → parse bytes ≡ sheet S → (room : ℕ) → outcome bytes room ≡ covered S room (cutless S)
 unfolding outcome
 sheet-outcome bytes S e room = ap (parsed room) e
-
--- a turn of the loop that copies
-pub copied-more : (bytes before buffer : List ℕ) (i : ℕ) → i < length bytes → i < length before → buffer ≡ take i bytes ++ drop i before
-    → set buffer i (getD bytes i 0) ≡ take (i + 1) bytes ++ drop (i + 1) before
-copied-more bytes before buffer i l m e =
-    ap (λ (b : List ℕ). set b i (getD bytes i 0)) (e ∙ ap (λ (r : List ℕ). take i bytes ++ r) (drop-cons before i 0 m))
-    ∙ set-at (take i bytes) (getD before i 0) (drop (suc i) before) (getD bytes i 0) i (length-take-le i bytes (omega arith))
-    ∙ sym (append-snoc (take i bytes) (getD bytes i 0) (drop (suc i) before))
-    ∙ ap (λ (r : List ℕ). r ++ drop (suc i) before) (sym (take-suc bytes i 0 l))
-    ∙ ap (λ (k : ℕ). take k bytes ++ drop k before) (sym (add-one i))
-
--- a plan that the buffer has no room for, and one that it has
-module _ (bytes buffer : List ℕ) (n : ℕ) (wide : n ≤ length bytes) where
-  pub no-room : length buffer < n → Answered (within (length buffer) (take n bytes)) 8 n buffer buffer
-  no-room l =
-      let e = length-take-le n bytes wide in
-      rw (lt-leb (length (take n bytes)) (length buffer) (omega arith)) (refl, sym e, refl)
-
-  pub written : (after : List ℕ) → n ≤ length buffer → after ≡ take n bytes ++ drop n buffer → Answered (within (length buffer) (take n bytes)) 0 n buffer after
-  written after l q =
-      let e = length-take-le n bytes wide in
-      rw (le-leb (length (take n bytes)) (length buffer) (omega arith)) (refl, sym e, q ∙ ap (λ (k : ℕ). take n bytes ++ drop k buffer) (sym e))

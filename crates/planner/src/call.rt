@@ -1,20 +1,25 @@
 // The planning call.
 ghost use mathlib.Core.Path.{_≡_};
-ghost use mathlib.Core.List.{List, [], _++_};
+ghost use mathlib.Core.List.{List, []};
 ghost use Prim.Native.Nat.{ℕ, _≤_};
-ghost use lib.ListN.{length, take, drop};
+ghost use lib.ListN.{length, take};
 ghost use Rattle.maps.specs.Sheet.{Sheet, size};
 ghost use Rattle.maps.specs.Legal.{Legal};
 ghost use Rattle.maps.specs.Least.{at, leastLabels};
 ghost use Rattle.maps.specs.Plan.{plan};
-ghost use Rattle.maps.specs.Outcome.{timed, cutless, covered, within, outcome};
+ghost use Rattle.maps.specs.Outcome.{timed, cutless, covered, outcome};
 ghost use Rattle.rows.specs.Table.{Falling};
 ghost use Rattle.bound.specs.Lookup.{labelsIn};
 ghost use Rattle.bound.specs.Going.{Given, AllKept};
 ghost use Rattle.writing.specs.Writing.{planRoom};
-ghost use Rattle.planner.specs.Call.{Made, Short, madeMeant, Answered, plannedNumber, plannedPlace};
+ghost use Rattle.bytes.specs.Outcome.{Answered, numberAnswered, placeAnswered};
+ghost use Rattle.planner.specs.Call.{Made, Short, madeMeant};
 use bound::Levels;
 use bound::Steps;
+use bytes::Answer;
+use bytes::Outcome;
+use bytes::answer_of;
+use bytes::hand_over;
 use cover::cover;
 use level::Cuts;
 use level::lowest_cutless;
@@ -32,12 +37,6 @@ use writing::write_plan;
 // A plan of so many bytes, or why there is none.
 pub enum Draft {
     Plan(usize),
-    Refused(Refusal),
-}
-
-// What planning answers: the length of what was written, or the refusal.
-pub enum Planned {
-    Written(usize),
     Refused(Refusal),
 }
 
@@ -124,38 +123,14 @@ pub fn make_plan(sheet: &[u8], bytes: &mut PlanBytes) -> Draft
     }
 }
 
-// Copies the first n bytes into the buffer.
-pub fn copy(bytes: &[u8], buffer: &mut [u8], n: usize)
-    requires { ⌜ (n ≤ length (now bytes)) × (n ≤ length (now buffer)) ⌝ }
-    ensures { λ _. ⌜ now (buffer .exit) ≡ take n (now (bytes .entry)) ++ drop n (now (buffer .entry)) ⌝ }
-{
-    let mut i: usize = 0;
-    while i < n {
-        buffer[i] = bytes[i];
-        i += 1;
-    }
-}
-
-// Hands over a plan of n bytes where the buffer has room.
-pub fn hand_over(bytes: &[u8], buffer: &mut [u8], n: usize) -> Planned
-    requires { ⌜ n ≤ length (now bytes) ⌝ }
-    ensures { λ r. ⌜ Answered (within (length (now (buffer .entry))) (take n (now (bytes .entry)))) (plannedNumber r) (plannedPlace r) (now (buffer .entry)) (now (buffer .exit)) ⌝ }
-{
-    if buffer.len() < n {
-        return Planned::Refused(Refusal::Room(n));
-    }
-    copy(bytes, buffer, n);
-    Planned::Written(n)
-}
-
 // Plans a sheet into a buffer: number, place and every byte of the buffer are those of the defined outcome.
-pub fn plan(sheet: &[u8], buffer: &mut [u8]) -> Planned
-    ensures { λ r. ⌜ Answered (outcome (now (sheet .entry)) (length (now (buffer .entry)))) (plannedNumber r) (plannedPlace r) (now (buffer .entry)) (now (buffer .exit)) ⌝ }
+pub fn plan(sheet: &[u8], buffer: &mut [u8]) -> Outcome
+    ensures { λ r. ⌜ Answered (outcome (now (sheet .entry)) (length (now (buffer .entry)))) (numberAnswered r) (placeAnswered r) (now (buffer .entry)) (now (buffer .exit)) ⌝ }
 {
     let mut bytes = [0u8; 5122];
     let draft = make_plan(sheet, &mut bytes);
     match draft {
-        Draft::Refused(why) => Planned::Refused(why),
+        Draft::Refused(why) => Outcome::Refused(why),
         Draft::Plan(n) => {
             let whole = &bytes;
             hand_over(whole, buffer, n)
@@ -163,26 +138,9 @@ pub fn plan(sheet: &[u8], buffer: &mut [u8]) -> Planned
     }
 }
 
-// Number and place, for C.
-#[repr(C)]
-pub struct Answer {
-    pub number: u64,
-    pub place: u64,
-}
-
 #[no_mangle]
 pub extern "C" fn maps_plan(sheet: &[u8], buffer: &mut [u8]) -> Answer
     ensures { λ r. ⌜ Answered (outcome (now (sheet .entry)) (length (now (buffer .entry)))) (r .number) (r .place) (now (buffer .entry)) (now (buffer .exit)) ⌝ }
 {
-    let answer = plan(sheet, buffer);
-    match answer {
-        Planned::Written(n) => Answer {
-            number: 0,
-            place: n as u64,
-        },
-        Planned::Refused(why) => Answer {
-            number: why.number() as u64,
-            place: why.place() as u64,
-        },
-    }
+    answer_of(plan(sheet, buffer))
 }

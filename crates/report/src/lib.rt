@@ -1,11 +1,12 @@
 // The listing of a sheet's plan, or the line of its refusal, on standard output.
 ghost use mathlib.Core.Path.{_≡_};
 ghost use Rattle.maps.specs.Outcome.{outcome, outcomeNumber};
+use bytes::Outcome;
 use maps::Refusal;
 use number::Cursor;
 use number::Number;
 use number::number_at;
-use planner::Planned;
+
 
 // A number of the plan and where the next begins; past the end, 0 at the end.
 struct Item {
@@ -102,11 +103,11 @@ pub fn report(sheet: &[u8]) -> u32
     let mut buffer = [0u8; 8192];
     let answer = planner::plan(sheet, &mut buffer);
     match answer {
-        Planned::Refused(why) => {
+        Outcome::Refused(why) => {
             print_refusal(why);
             why.number()
         }
-        Planned::Written(n) => {
+        Outcome::Written(n) => {
             print_first(&buffer, n);
             0
         }

@@ -1,20 +1,12 @@
--- What stands in a buffer after a write, and what a row's numbers must be for their bytes.
-use Prim.Native.Nat.{ℕ, _+_, _≤_, _<_}
-use mathlib.Core.Path.{_≡_}
-use mathlib.Core.List.{List, _++_}
-use lib.ListN.{length, getD, take}
+-- The bytes of a plan at most, and what a row's numbers must be for their bytes.
+use Prim.Native.Nat.{ℕ, _≤_, _<_}
+use mathlib.Core.List.{List}
+use lib.ListN.{getD}
 use Rattle.maps.specs.Limits.{leavesRange}
 use Rattle.maps.specs.Lists.{All}
 use Rattle.maps.specs.Number.{values}
 use Rattle.bound.specs.Lookup.{countOf}
 use Rattle.cover.specs.Cover.{rowOf}
-
--- xs, at most `most` bytes, stand from `at` to `next` behind what stood before them
-pub record Put (most : ℕ) (before after : List ℕ) (at next : ℕ) (xs : List ℕ) : Type 0 where
-  pub end : next ≡ at + length xs
-  pub near : next ≤ at + most
-  pub wide : length after ≡ length before
-  pub front : take next after ≡ take at before ++ xs
 
 -- the bytes of 256 rows of ten numbers and of the latency, each number in two
 abbrev pub planRoom : ℕ

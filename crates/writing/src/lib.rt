@@ -1,4 +1,4 @@
-// Numbers and plans, written as bytes.
+// Plans, written as bytes.
 ghost use mathlib.Core.Path.{_≡_};
 ghost use mathlib.Core.List.{_++_, map};
 ghost use Prim.Native.Nat.{ℕ, _+_, _<_, _≤_};
@@ -9,32 +9,18 @@ ghost use Rattle.maps.specs.Number.{encoded, values};
 ghost use Rattle.bound.specs.Lookup.{countOf};
 ghost use Rattle.cover.specs.Cover.{Rows, rowOf};
 ghost use Rattle.writing.specs.Bytes.{Small, flatRow, flatPlan};
-ghost use Rattle.writing.specs.Writing.{Put, planRoom, Writable};
+ghost use Rattle.bytes.specs.Put.{Put};
+ghost use Rattle.writing.specs.Writing.{planRoom, Writable};
 use bound::Levels;
 use bound::Steps;
 use bound::label_of;
+use bytes::put;
 use level::Cuts;
 use level::leaf_count_in;
 use level::leaf_in;
 
 // Room for the longest plan, and more: every number in two bytes.
 pub type PlanBytes = [u8; 5122];
-
-// Writes x in one or two bytes; the position after them.
-fn put(bytes: &mut [u8], at: usize, x: u32) -> usize
-    requires { ⌜ (x < values) × (at + 2 ≤ length (now bytes)) ⌝ }
-    ensures { λ r. ⌜ Put 2 (now (bytes .entry)) (now (bytes .exit)) at r (encoded x) ⌝ }
-{
-    if x < 128 {
-        bytes[at] = x as u8;
-        return at + 1;
-    }
-    let low = 128 + x % 128;
-    let high = x / 128;
-    bytes[at] = low as u8;
-    bytes[at + 1] = high as u8;
-    at + 2
-}
 
 // Writes the step, the level and the mark of v.
 fn put_node(

@@ -8,8 +8,9 @@ use Rattle.maps.specs.Lists.{concat}
 use Rattle.maps.specs.Number.{encoded}
 use Rattle.bound.specs.Lookup.{countOf, leafOf}
 use Rattle.cover.proofs.CoverMarks.{over-get}
-use Rattle.writing.specs.Writing.{Put}
-use Rattle.writing.proofs.Putting.{leavesTo, put-none, put-leaf, put-leaves}
+use Rattle.bytes.specs.Put.{Put}
+use Rattle.bytes.proofs.Putting.{put-none}
+use Rattle.writing.proofs.Putting.{leavesTo, put-leaf, put-leaves}
 use Rattle.writing.proofs.put_cut.Statement.{statement}
 use Rattle.writing.proofs.put_cut.Tie as tie
 

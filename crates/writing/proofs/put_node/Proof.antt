@@ -2,7 +2,7 @@
 use mathlib.Core.Path.{ap}
 use native.Mathlib.Omega.{arith}
 use Rattle.maps.specs.Label.{Label}
-use Rattle.writing.proofs.Putting.{put-then}
+use Rattle.bytes.proofs.Putting.{put-then}
 use borrow.Author.Needs.{needs}
 use Rattle.writing.proofs.put_node.Statement.{statement}
 use Rattle.writing.proofs.put_node.Tie as tie

@@ -2,7 +2,7 @@
 use borrow.Author.Needs.{needs}
 use native.Mathlib.Omega.{arith}
 use mathlib.Core.List.{append-assoc}
-use Rattle.writing.proofs.Putting.{put-then}
+use Rattle.bytes.proofs.Putting.{put-then}
 use Rattle.writing.proofs.put_row.Statement.{statement}
 use Rattle.writing.proofs.put_row.Tie as tie
 

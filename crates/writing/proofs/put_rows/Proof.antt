@@ -5,8 +5,9 @@ use Prim.Native.Nat.{_-_, _*_, _≤_}
 use mathlib.Core.List.{map}
 use Rattle.maps.specs.Lists.{below, concat}
 use Rattle.writing.specs.Bytes.{flatRow}
-use Rattle.writing.specs.Writing.{Put}
-use Rattle.writing.proofs.Putting.{put-none, put-next, put-all}
+use Rattle.bytes.specs.Put.{Put}
+use Rattle.bytes.proofs.Putting.{put-none}
+use Rattle.writing.proofs.Putting.{put-next, put-all}
 use Rattle.writing.proofs.put_rows.Statement.{statement}
 use Rattle.writing.proofs.put_rows.Tie as tie
 

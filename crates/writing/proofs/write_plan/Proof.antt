@@ -2,7 +2,8 @@
 use borrow.Author.Needs.{needs}
 use native.Mathlib.Omega.{arith}
 use Rattle.writing.specs.Writing.{planRoom}
-use Rattle.writing.proofs.Putting.{put-then, put-first}
+use Rattle.bytes.proofs.Putting.{put-then}
+use Rattle.writing.proofs.Putting.{put-first}
 use Rattle.writing.proofs.write_plan.Statement.{statement}
 use Rattle.writing.proofs.write_plan.Tie as tie
 

@@ -1,8 +1,8 @@
--- `call::hand_over` meets its contract.
+-- `hand_over` meets its contract.
 use borrow.Author.Needs.{needs}
-use Rattle.planner.proofs.Drafts.{no-room, written}
-use Rattle.planner.proofs.call.hand_over.Statement.{statement}
-use Rattle.planner.proofs.call.hand_over.Tie as tie
+use Rattle.bytes.proofs.HandingOver.{no-room, written}
+use Rattle.bytes.proofs.hand_over.Statement.{statement}
+use Rattle.bytes.proofs.hand_over.Tie as tie
 
 returns : tie.Need-returns
 returns c =

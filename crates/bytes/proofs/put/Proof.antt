@@ -1,11 +1,11 @@
--- `writing::put` meets its contract.
+-- `put` meets its contract.
 use borrow.Author.Needs.{needs}
 use native.Mathlib.Omega.{arith}
 use lib.ListN.{length-set}
 use Prim.Native.Nat.{_+_, _%_}
-use Rattle.writing.proofs.Putting.{put-small, put-large}
-use Rattle.writing.proofs.put.Statement.{statement}
-use Rattle.writing.proofs.put.Tie as tie
+use Rattle.bytes.proofs.Putting.{put-small, put-large}
+use Rattle.bytes.proofs.put.Statement.{statement}
+use Rattle.bytes.proofs.put.Tie as tie
 
 returns : tie.Need-returns
 returns c = let s = c .before in put-small (s .args .bytes .now) (s .args .at) (s .args .x) (c .if1 .taken) (s .pre .1)

@@ -1,13 +1,13 @@
--- `call::copy` meets its contract. The invariant: the first i bytes are copied.
+-- `copy` meets its contract. The invariant: the first i bytes are copied.
 use Prim.Native.Nat.{_-_, _≤_}
 use native.Mathlib.Omega.{arith}
 use mathlib.Core.Path.{_≡_, refl, ap, _∙_}
 use mathlib.Core.List.{_++_}
 use lib.ListN.{length, take, drop, length-set}
 use borrow.Author.Needs.{needs}
-use Rattle.planner.proofs.Drafts.{copied-more}
-use Rattle.planner.proofs.call.copy.Statement.{statement}
-use Rattle.planner.proofs.call.copy.Tie as tie
+use Rattle.bytes.proofs.HandingOver.{copied-more}
+use Rattle.bytes.proofs.copy.Statement.{statement}
+use Rattle.bytes.proofs.copy.Tie as tie
 
 abbrev Inv-loop : tie.InvT-loop
 Inv-loop bytes buffer₀ n i₀ buffer i = (i ≤ n) × (buffer ≡ take i bytes ++ drop i buffer₀) × (length buffer ≡ length buffer₀)

@@ -1,0 +1,148 @@
+-- The sheet writer and the reader: what is written reads as the records, and what reads is written again, byte for byte.
+use Prim.Native.Nat.{ℕ, _+_, _-_, _^_, _≤_, _<_}
+use mathlib.Core.Path.{_≡_, refl, ap, _∙_}
+use mathlib.Core.Bool.{Bool, true, false, cond}
+use mathlib.Core.List.{List, [], _∷_, _++_, append-nil}
+use native.Mathlib.Omega.{arith}
+use native.Mathlib.Nat.{zero-add}
+use lib.Dec.{leb, ltb}
+use lib.ListN.{length, drop, drop-of-length-le}
+use borrow.Author.Tests.{ltb-false, le-ltb, le-leb, lt-leb}
+use Rattle.maps.specs.Lists.{All}
+use Rattle.maps.specs.Sheet.{Sheet}
+use Rattle.maps.specs.Number.{Got, got, refusal, number, width, encoded}
+use Rattle.maps.specs.Form.{Rule, ground, passes, Form, done, ask, read, Leads}
+use Rattle.maps.specs.Read.{sheetForm, sheet, refused, whole, parse}
+use Rattle.maps.specs.WellFormed.{WellFormed}
+use Rattle.maps.specs.Outcome.{accepted, within}
+use Rattle.maps.specs.Outcome as O
+use Rattle.maps.specs.Records.{Records, sheetMeant, recordsOf}
+use Rattle.maps.specs.Write.{numbers, valuesOf, spelled, spelling, Passes, First, Verdict, good, fault, verdict, answered, writing}
+use Rattle.maps.proofs.Spelling.{Bytes, read-at}
+use Rattle.maps.proofs.Parse.{parse-well}
+use Rattle.maps.proofs.Leading.{leads-read, Ends, ends}
+use Rattle.maps.proofs.Leading as L
+use Rattle.maps.proofs.Along.{Along, along-sheet, along-end, along-stop, along-pass}
+use Rattle.maps.proofs.Shown.{shows-sheet}
+use Rattle.maps.proofs.Spellable.{leads-small}
+use Rattle.maps.proofs.RecordLaws.{records-again, sheet-again, well-passes}
+use Rattle.maps.proofs.Verdicts.{Judged, all, one, judge, verdict-good, verdict-fault}
+
+module _ (R : Records) (room : ℕ) where
+  -- the writer accepts only where every number passes and the spelling has room
+  pub writing-passes : {bytes : List ℕ} → writing R room ≡ accepted bytes → All Passes (numbers R) × (bytes ≡ spelled (valuesOf (numbers R)))
+  unfolding writing
+  writing-passes {bytes} e = go (verdict 0 (numbers R)) (judge 0 (numbers R)) e
+    where
+      text : List ℕ
+      text = spelled (valuesOf (numbers R))
+
+      roomed : (b : Bool) → cond b (accepted text) (O.refusal 8 (length text)) ≡ accepted bytes → bytes ≡ text
+      roomed true e = cc
+      roomed false e = let z : _≡_ {A = ℕ} 0 1 = cc in absurd (omega arith)
+
+      go : (v : Verdict) → Judged (numbers R) 0 v → answered v text room ≡ accepted bytes → All Passes (numbers R) × (bytes ≡ text)
+      go (good _) (all h) e = (h, roomed (leb (length text) room) e)
+      go (fault k i) (one f) e = let z : _≡_ {A = ℕ} 0 1 = cc in absurd (omega arith)
+
+  -- and there it does, or lacks room: "then 8"
+  passes-writing : All Passes (numbers R) → writing R room ≡ within room (spelled (valuesOf (numbers R)))
+  unfolding writing
+  passes-writing p = rw (verdict-good 0 (numbers R) p)
+
+  pub passes-written : All Passes (numbers R) → length (spelled (valuesOf (numbers R))) ≤ room → writing R room ≡ accepted (spelled (valuesOf (numbers R)))
+  passes-written p l = passes-writing p ∙ rw (le-leb (length (spelled (valuesOf (numbers R)))) room l)
+
+  pub passes-short : All Passes (numbers R) → room < length (spelled (valuesOf (numbers R))) → writing R room ≡ O.refusal 8 (length (spelled (valuesOf (numbers R))))
+  passes-short p l = passes-writing p ∙ rw (lt-leb (length (spelled (valuesOf (numbers R)))) room l)
+
+  -- "the first number that the reader would refuse gets 3 or 4 (place: which number of the sheet, from 0)"
+  pub first-refused : (k i : ℕ) → First (numbers R) k i → writing R room ≡ O.refusal k i
+  unfolding writing
+  first-refused k i f = let q : 0 + i ≡ i = omega arith in rw (verdict-fault 0 (numbers R) k i f, q)
+
+-- reading after the numbers ns
+pub reads-on : (ns : List ℕ) (g : Form Sheet) (rest : List ℕ) → Leads sheetForm ns g
+    → (read sheetForm (spelled ns ++ rest) 0 ≡ read g (spelled ns ++ rest) (length (spelled ns))) × (drop (length (spelled ns)) (spelled ns ++ rest) ≡ rest)
+reads-on ns g rest l = rw (zero-add (length (spelled ns))) at (leads-read sheetForm g ns (leads-small ns g l) l (spelled ns ++ rest) 0 rest refl)
+
+-- numbers that lead to the end of the form are read as the sheet
+leads-parse : (ns : List ℕ) (S : Sheet) → Leads sheetForm ns (done S) → parse (spelled ns) ≡ sheet S
+unfolding parse
+leads-parse ns S l =
+    let t = rw (append-nil (spelled ns)) at (reads-on ns (done S) [] l .0) in
+    rw (t, le-ltb (length (spelled ns)) (length (spelled ns)) (omega arith))
+
+-- a number that is not as asked
+pub reads-fails : (r : Rule) (g : ℕ → Form Sheet) (s : List ℕ) (at x : ℕ) (rest : List ℕ) → drop at s ≡ encoded x ++ rest → x < 128 ^ width
+    → passes r x ≡ false → read (ask r g) s at ≡ refusal (ground r) at
+reads-fails r g s at x rest e l f =
+    let n : number s at ≡ got x (at + length (encoded x)) = read-at s (width - 1) at x rest l e in
+    rw (n, f)
+
+-- "Reading the written sheet gives those records again": their numbers pass and so lead to the end of the form
+pub passes-read : (R : Records) → All Passes (numbers R) → parse (spelled (valuesOf (numbers R))) ≡ sheet (sheetMeant R)
+passes-read R p = leads-parse (valuesOf (numbers R)) (sheetMeant R) (along-end sheetForm (numbers R) (sheetMeant R) (along-sheet R) p)
+
+-- a sheet that reads is the form gone through to its end
+parse-leads : (bytes : List ℕ) (S : Sheet) → Bytes bytes → parse bytes ≡ sheet S → (ns : List ℕ) × Leads sheetForm ns (done S) × (bytes ≡ spelled ns)
+unfolding parse
+parse-leads bytes S b e = go (read sheetForm bytes 0) (ends sheetForm bytes b 0) e
+  where
+    never : {A : Type 0} (k p : ℕ) → refused k p ≡ sheet S → A
+    never k p q = let z : _≡_ {A = ℕ} 0 1 = cc in absurd (omega arith)
+
+    end : (R : Sheet) (next : ℕ) (t : Bool) → ltb next (length bytes) ≡ t → (ns : List ℕ) → Leads sheetForm ns (done R) → bytes ≡ spelled ns ++ drop next bytes
+        → cond t (refused 5 next) (sheet R) ≡ sheet S → (ns : List ℕ) × Leads sheetForm ns (done S) × (bytes ≡ spelled ns)
+    end R next true h ns l d q = never 5 next q
+    end R next false h ns l d q =
+        let z : R ≡ S = cc in
+        let n : drop next bytes ≡ [] = drop-of-length-le bytes (ltb-false next (length bytes) h) in
+        (ns, rw z at l, d ∙ rw (n, append-nil (spelled ns)))
+
+    go : (g : Got Sheet) → Ends sheetForm bytes 0 g → whole bytes g ≡ sheet S → (ns : List ℕ) × Leads sheetForm ns (done S) × (bytes ≡ spelled ns)
+    go (got R next) (L.whole ns l d u) q = end R next (ltb next (length bytes)) refl ns l d q
+    go (refusal k p) (L.stop ns r g rest l d u) q = never k p q
+    go (refusal _ _) (L.wrong ns r g x rest l d u f) q = never (ground r) (0 + length (spelled ns)) q
+
+-- the numbers of its records are those in its bytes, and pass since they were read
+read-passes : (bytes : List ℕ) (S : Sheet) → Bytes bytes → parse bytes ≡ sheet S
+    → All Passes (numbers (recordsOf S)) × (bytes ≡ spelled (valuesOf (numbers (recordsOf S))))
+read-passes bytes S b e =
+    let t = parse-leads bytes S b e in
+    let v = shows-sheet (t .0) S (t .1) in
+    let R = recordsOf S in
+    (along-pass sheetForm (numbers R) (sheetMeant R) (done S) (along-sheet R) (rw v at (t .1)), t .2 ∙ ap spelled v)
+
+-- ".. and a sheet that reads is reproduced byte for byte"
+pub reproduced : (bytes : List ℕ) (S : Sheet) → Bytes bytes → parse bytes ≡ sheet S → (room : ℕ) → length bytes ≤ room
+    → writing (recordsOf S) room ≡ accepted bytes
+reproduced bytes S b e room l =
+    let t = read-passes bytes S b e in
+    rw (t .1) (passes-written (recordsOf S) room (t .0) (rw (t .1) at l))
+
+-- a sheet reads exactly if it is the spelling of a well-formed one
+pub reads-spelling : (S : Sheet) → WellFormed S → parse (spelling S) ≡ sheet S
+unfolding spelling
+reads-spelling S w = passes-read (recordsOf S) (well-passes S w) ∙ ap sheet (sheet-again S w)
+
+pub spelling-read : (bytes : List ℕ) (S : Sheet) → Bytes bytes → parse bytes ≡ sheet S → WellFormed S × (bytes ≡ spelling S)
+unfolding spelling
+spelling-read bytes S b e = (parse-well bytes S e, read-passes bytes S b e .1)
+
+-- the spelling of the sheet that records mean is that of the records
+pub meant-spelling : (R : Records) → All Passes (numbers R) → spelling (sheetMeant R) ≡ spelled (valuesOf (numbers R))
+unfolding spelling
+meant-spelling R p = ap (λ Q. spelled (valuesOf (numbers Q))) (records-again R p)
+
+-- where the writer refuses number i, the reader refuses the sheet that has the numbers before it and then that number, at that number's byte
+pub refused-read : (R : Records) (k i : ℕ) → (f : First (numbers R) k i) → f .faulty .value < 128 ^ width → (after : List ℕ)
+    → parse (spelled (valuesOf (f .before)) ++ (encoded (f .faulty .value) ++ after)) ≡ refused k (length (spelled (valuesOf (f .before))))
+unfolding parse
+refused-read R k i f l after =
+    let ns = valuesOf (f .before) in
+    let x = f .faulty .value in
+    let a : Along sheetForm (f .before ++ (f .faulty ∷ f .after)) (sheetMeant R) = rw (f .listed) at (along-sheet R) in
+    let s = along-stop sheetForm (f .before) (f .faulty) (f .after) (sheetMeant R) a (f .good) in
+    let r = reads-on ns (ask (f .faulty .rule) (s .0)) (encoded x ++ after) (s .1) in
+    rw (r .0, reads-fails (f .faulty .rule) (s .0) (spelled ns ++ (encoded x ++ after)) (length (spelled ns)) x after (r .1) l (f .fails), f .number)

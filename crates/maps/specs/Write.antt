@@ -1,0 +1,116 @@
+-- Document 02, U1: the sheet writer. "Given header, nodes and differences, it writes the sheet."
+use Prim.Native.Nat.{ℕ, _+_, _*_}
+use mathlib.Core.Path.{_≡_}
+use mathlib.Core.Bool.{true, false, cond}
+use mathlib.Core.List.{List, [], _∷_, _++_, map}
+use lib.IntN.{ℤ, pos, negsuc}
+use lib.ListN.{length}
+use Rattle.maps.specs.Lists.{All, concat}
+use Rattle.maps.specs.Number.{encoded, encodedUpTo}
+use Rattle.maps.specs.Limits.{leavesRange, topRange, horizonRange, sizeRange, countRange, kindRange, markRange, idRange, weightRange, rangesOf}
+use Rattle.maps.specs.Sheet.{Sheet}
+use Rattle.maps.specs.Form.{Rule, among, under, passes, ground}
+use Rattle.maps.specs.Records.{NodeRecord, DifferenceRecord, Records, recordsOf}
+use Rattle.maps.specs.Outcome.{Outcome, accepted, refusal, within}
+
+-- a number of the sheet, with what the reader asks of it
+pub record Entry : Type 0 where
+  pub rule : Rule
+  pub value : ℕ
+
+abbrev pub entry : Rule → ℕ → Entry
+entry r x = record { rule = r; value = x }
+
+-- "n, m and operand counts are how many were given"
+abbrev pub headerNumbers : Records → List Entry
+headerNumbers R =
+    entry (among leavesRange) (R .leaves)
+    ∷ entry (among topRange) (R .top)
+    ∷ entry (among horizonRange) (R .horizon)
+    ∷ entry (among sizeRange) (length (R .nodes))
+    ∷ entry (among countRange) (length (R .differences))
+    ∷ []
+
+-- "kind .., output mark .., d, lat, operand count"
+abbrev pub headNumbers : (top : ℕ) → NodeRecord → List Entry
+headNumbers top v =
+    entry (among kindRange) (v .kind)
+    ∷ entry (among markRange) (v .mark)
+    ∷ entry (among (rangesOf top (v .kind) .delay)) (v .delay)
+    ∷ entry (among (rangesOf top (v .kind) .latency)) (v .latency)
+    ∷ entry (among (rangesOf top (v .kind) .operands)) (length (v .operands))
+    ∷ []
+
+-- ".. operand ids" of the node `own`
+abbrev pub nodeNumbers : (top own : ℕ) → NodeRecord → List Entry
+nodeNumbers top own v = headNumbers top v ++ map (entry (under own)) (v .operands)
+
+-- "w coded as 2w if w ≥ 0, otherwise −2w − 1": negsuc k is −k − 1
+abbrev pub codeOfWeight : ℤ → ℕ
+codeOfWeight (pos k) = 2 * k
+codeOfWeight (negsuc k) = 2 * k + 1
+
+-- "u and v, each an id from 0 to n − 1, and w"
+abbrev pub differenceNumbers : (size : ℕ) → DifferenceRecord → List Entry
+differenceNumbers n d =
+    entry (among (idRange n)) (d .from)
+    ∷ entry (among (idRange n)) (d .to)
+    ∷ entry (among weightRange) (codeOfWeight (d .weight))
+    ∷ []
+
+-- the numbers of the nodes with ids i, i + 1, ..
+abbrev pub eachNumbers : {A : Type 0} → (ℕ → A → List Entry) → ℕ → List A → List Entry
+eachNumbers f i [] = []
+eachNumbers f i (x ∷ xs) = f i x ++ eachNumbers f (i + 1) xs
+
+-- all numbers of the sheet in its order
+unfoldable pub numbers : Records → List Entry
+numbers R =
+    headerNumbers R
+    ++ (eachNumbers (nodeNumbers (R .top)) 0 (R .nodes) ++ concat (map (differenceNumbers (length (R .nodes))) (R .differences)))
+
+abbrev pub valuesOf : List Entry → List ℕ
+valuesOf = map (λ e. e .value)
+
+-- numbers one after the other, each in its one spelling
+abbrev pub spelled : List ℕ → List ℕ
+spelled ns = concat (map encoded ns)
+
+-- the one spelling of a sheet
+unfoldable pub spelling : Sheet → List ℕ
+unfolding numbers encodedUpTo
+spelling S = spelled (valuesOf (numbers (recordsOf S)))
+
+-- the number is as the reader asks
+abbrev pub Passes : Entry → Type 0
+Passes e = passes (e .rule) (e .value) ≡ true
+
+-- number i is the first that the reader would refuse, and k its ground
+pub record First (es : List Entry) (k i : ℕ) : Type 0 where
+  pub before : List Entry
+  pub faulty : Entry
+  pub after : List Entry
+  pub listed : es ≡ before ++ (faulty ∷ after)
+  pub place : length before ≡ i
+  pub good : All Passes before
+  pub fails : passes (faulty .rule) (faulty .value) ≡ false
+  pub number : ground (faulty .rule) ≡ k
+
+-- the numbers from the i-th on: all pass, and how many there are up to here, or the first that does not, with its ground
+pub data Verdict : Type 0 where
+  good : (next : ℕ) → Verdict
+  fault : (number : ℕ) → (place : ℕ) → Verdict
+
+abbrev pub verdict : (i : ℕ) → List Entry → Verdict
+verdict i [] = good i
+verdict i (e ∷ es) = cond (passes (e .rule) (e .value)) (verdict (i + 1) es) (fault (ground (e .rule)) i)
+
+-- "the first number that the reader would refuse gets 3 or 4 (place: which number of the sheet, from 0), then 8"
+abbrev pub answered : Verdict → (bytes : List ℕ) → (room : ℕ) → Outcome
+answered (good next) bytes room = within room bytes
+answered (fault k i) bytes room = refusal k i
+
+-- the outcome of writing records into a buffer of `room` bytes
+unfoldable pub writing : Records → (room : ℕ) → Outcome
+unfolding numbers encodedUpTo
+writing R room = answered (verdict 0 (numbers R)) (spelled (valuesOf (numbers R))) room

@@ -1,0 +1,97 @@
+-- Document 02, U1: records, the room, and the outcome of writing them, one table, proved together by computation.
+use Prim.Native.Nat.{ℕ}
+use mathlib.Core.Bool.{Bool}
+use mathlib.Core.List.{List, [], _∷_, _++_}
+use lib.Dec.{T}
+use lib.IntN.{ℤ, pos, negsuc}
+use lib.ListN.{replicate}
+use Rattle.maps.specs.Lists.{all}
+use Rattle.maps.specs.Outcome.{Outcome, accepted, refusal}
+use Rattle.maps.specs.Records.{NodeRecord, DifferenceRecord, Records}
+use Rattle.maps.specs.Write.{writing}
+use Rattle.maps.specs.Cases.{isOutcome}
+
+pub data Case : Type 0 where
+  writes : Records → (room : ℕ) → Outcome → Case
+
+unfoldable pub holds : Case → Bool
+unfolding writing
+holds (writes G room o) = isOutcome (writing G room) o
+
+-- kind, mark, d, lat, operands; u, v, w; K, T, H, nodes, differences
+abbrev node : (kind mark d lat : ℕ) → List ℕ → NodeRecord
+node k o d l us = record { kind = k; mark = o; delay = d; latency = l; operands = us }
+
+abbrev gap : (u v : ℕ) → ℤ → DifferenceRecord
+gap u v w = record { from = u; to = v; weight = w }
+
+abbrev given : (k t h : ℕ) → List NodeRecord → List DifferenceRecord → Records
+given k t h vs ds = record { leaves = k; top = t; horizon = h; nodes = vs; differences = ds }
+
+abbrev inputNode : NodeRecord
+inputNode = node 0 0 0 0 []
+
+abbrev hallNodes : List NodeRecord
+hallNodes =
+    inputNode ∷ inputNode ∷ inputNode ∷ node 1 0 1 0 (0 ∷ 1 ∷ []) ∷ node 1 0 1 0 (3 ∷ 2 ∷ []) ∷ node 1 1 1 0 (4 ∷ 3 ∷ []) ∷ []
+
+abbrev hall : Records
+hall = given 3 2 4 hallNodes (gap 0 5 (pos 1) ∷ [])
+
+-- "The hall sheet in hexadecimal, 44 bytes"
+abbrev hallSheet : List ℕ
+hallSheet =
+    (0x03 ∷ 0x02 ∷ 0x04 ∷ 0x06 ∷ 0x01 ∷ [])
+    ++ (0x00 ∷ 0x00 ∷ 0x00 ∷ 0x00 ∷ 0x00 ∷ 0x00 ∷ 0x00 ∷ 0x00 ∷ 0x00 ∷ 0x00 ∷ 0x00 ∷ 0x00 ∷ 0x00 ∷ 0x00 ∷ 0x00 ∷ [])
+    ++ (0x01 ∷ 0x00 ∷ 0x01 ∷ 0x00 ∷ 0x02 ∷ 0x00 ∷ 0x01 ∷ [])
+    ++ (0x01 ∷ 0x00 ∷ 0x01 ∷ 0x00 ∷ 0x02 ∷ 0x03 ∷ 0x02 ∷ [])
+    ++ (0x01 ∷ 0x01 ∷ 0x01 ∷ 0x00 ∷ 0x02 ∷ 0x04 ∷ 0x03 ∷ [])
+    ++ (0x00 ∷ 0x05 ∷ 0x02 ∷ [])
+
+-- an input and one more node; an input and one difference
+abbrev two : NodeRecord → Records
+two v = given 2 1 0 (inputNode ∷ v ∷ []) []
+
+abbrev apart : DifferenceRecord → Records
+apart d = given 2 1 4095 (inputNode ∷ []) (d ∷ [])
+
+abbrev apartSheet : List ℕ → List ℕ
+apartSheet w = (2 ∷ 1 ∷ 0xff ∷ 0x1f ∷ 1 ∷ 1 ∷ 0 ∷ 0 ∷ 0 ∷ 0 ∷ 0 ∷ 0 ∷ 0 ∷ []) ++ w
+
+unfoldable pub cases : List Case
+cases =
+    -- the hall sheet; 8 one byte short
+    writes hall 44 (accepted hallSheet)
+    ∷ writes hall 43 (refusal 8 44)
+    -- the header: the first in the sheet's order decides; n and m are numbers 3 and 4; a number without a spelling
+    ∷ writes (given 7 2 4 [] []) 64 (refusal 3 0)
+    ∷ writes (given 3 2 4 [] []) 64 (refusal 3 3)
+    ∷ writes (given 3 2 4 (replicate 257 inputNode) (replicate 1025 (gap 0 0 (pos 0)))) 64 (refusal 3 3)
+    ∷ writes (given 3 2 4 (inputNode ∷ []) (replicate 1025 (gap 0 0 (pos 0)))) 64 (refusal 3 4)
+    ∷ writes (given 3 20000 4 [] []) 64 (refusal 3 1)
+    ∷ writes (given 3 2 4096 [] []) 64 (refusal 3 2)
+    -- a node: kind, mark, d, lat; an operand on an input and seven on a table, at the count
+    ∷ writes (two (node 3 0 0 0 [])) 64 (refusal 3 10)
+    ∷ writes (two (node 0 2 0 0 [])) 64 (refusal 3 11)
+    ∷ writes (two (node 1 0 2 0 (0 ∷ []))) 64 (refusal 3 12)
+    ∷ writes (two (node 1 0 1 1 (0 ∷ []))) 64 (refusal 3 13)
+    ∷ writes (two (node 0 0 0 0 (9 ∷ []))) 64 (refusal 3 14)
+    ∷ writes (two (node 1 0 1 0 (9 ∷ 9 ∷ 9 ∷ 9 ∷ 9 ∷ 9 ∷ 9 ∷ []))) 64 (refusal 3 14)
+    ∷ writes (two (node 1 0 1 0 [])) 64 (refusal 3 14)
+    -- operands: the node itself, an id without a spelling, the second of two; 4 before 8
+    ∷ writes (two (node 1 0 1 0 (1 ∷ []))) 64 (refusal 4 15)
+    ∷ writes (two (node 1 0 1 0 (70000 ∷ []))) 64 (refusal 4 15)
+    ∷ writes (two (node 1 0 1 0 (0 ∷ 1 ∷ []))) 0 (refusal 4 16)
+    -- differences: u, v, w; the least and the greatest w
+    ∷ writes (apart (gap 1 0 (pos 0))) 64 (refusal 3 10)
+    ∷ writes (apart (gap 0 1 (pos 0))) 64 (refusal 3 11)
+    ∷ writes (apart (gap 0 0 (pos 4096))) 64 (refusal 3 12)
+    ∷ writes (apart (gap 0 0 (negsuc 4095))) 64 (refusal 3 12)
+    ∷ writes (apart (gap 0 0 (pos 4095))) 64 (accepted (apartSheet (0xfe ∷ 0x3f ∷ [])))
+    ∷ writes (apart (gap 0 0 (negsuc 4094))) 64 (accepted (apartSheet (0xfd ∷ 0x3f ∷ [])))
+    ∷ writes (apart (gap 0 0 (negsuc 0))) 64 (accepted (apartSheet (1 ∷ [])))
+    ∷ []
+
+pub marked : T (all holds cases)
+unfolding holds cases
+marked = tt

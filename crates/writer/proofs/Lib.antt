@@ -1,0 +1,3 @@
+pub mod Temp
+pub mod Wroting
+pub mod Fields

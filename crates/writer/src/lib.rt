@@ -1,0 +1,8 @@
+// The sheet writer: the sheet of a circuit that is kept as records.
+mod numbers;
+mod parts;
+mod records;
+mod sheet;
+
+pub use sheet::maps_write_rows;
+pub use sheet::write;

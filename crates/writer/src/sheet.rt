@@ -1,0 +1,88 @@
+// The sheet of records, whole, and its C export.
+ghost use mathlib.Core.Path.{_≡_};
+ghost use lib.ListN.{length};
+ghost use Rattle.maps.specs.Write.{numbers, writing};
+ghost use Rattle.bytes.specs.Outcome.{Answered, numberAnswered, placeAnswered};
+ghost use Rattle.writer.specs.Rows.{recordsIn};
+ghost use Rattle.writer.specs.Wrote.{sheetRoom, start, Wrote};
+use bytes::Answer;
+use bytes::Outcome;
+use bytes::answer_of;
+use bytes::hand_over;
+use crate::numbers::Pen;
+use crate::numbers::Progress;
+use crate::parts::put_differences;
+use crate::parts::put_header;
+use crate::parts::put_nodes;
+use crate::records::difference_count;
+use crate::records::node_count;
+
+// Room for every number of the longest sheet in two bytes.
+pub type SheetBytes = [u8; 11786];
+
+// Makes the sheet, whatever the room.
+pub fn make_sheet(
+    leaves: u32,
+    top: u32,
+    horizon: u32,
+    nodes: &[u32],
+    operands: &[u32],
+    differences: &[u32],
+    bytes: &mut SheetBytes,
+) -> Progress
+    requires { ⌜ length (now bytes) ≡ sheetRoom ⌝ }
+    ensures { λ r. ⌜ Wrote (numbers (recordsIn leaves top horizon (now (nodes .entry)) (now (operands .entry)) (now (differences .entry))))
+        (now (bytes .entry)) (now (bytes .exit)) start r ⌝ }
+{
+    let n = node_count(nodes);
+    let m = difference_count(differences);
+    let header = put_header(leaves, top, horizon, n, m, bytes, Pen { at: 0, number: 0 });
+    let Progress::Next(p1) = header else {
+        return header;
+    };
+    let body = put_nodes(nodes, operands, n, top, bytes, p1);
+    let Progress::Next(p2) = body else {
+        return body;
+    };
+    put_differences(differences, m, n as u32, bytes, p2)
+}
+
+// Writes the sheet of records into a buffer: number, place and every byte of the buffer are those of the defined outcome.
+pub fn write(
+    leaves: u32,
+    top: u32,
+    horizon: u32,
+    nodes: &[u32],
+    operands: &[u32],
+    differences: &[u32],
+    buffer: &mut [u8],
+) -> Outcome
+    ensures { λ r. ⌜ Answered (writing (recordsIn leaves top horizon (now (nodes .entry)) (now (operands .entry)) (now (differences .entry))) (length (now (buffer .entry))))
+        (numberAnswered r) (placeAnswered r) (now (buffer .entry)) (now (buffer .exit)) ⌝ }
+{
+    let mut bytes = [0u8; 11786];
+    let made = make_sheet(leaves, top, horizon, nodes, operands, differences, &mut bytes);
+    match made {
+        Progress::Refused(why) => Outcome::Refused(why),
+        Progress::Next(pen) => {
+            let whole = &bytes;
+            hand_over(whole, buffer, pen.at)
+        }
+    }
+}
+
+#[no_mangle]
+pub extern "C" fn maps_write_rows(
+    leaves: u32,
+    top: u32,
+    horizon: u32,
+    nodes: &[u32],
+    operands: &[u32],
+    differences: &[u32],
+    buffer: &mut [u8],
+) -> Answer
+    ensures { λ r. ⌜ Answered (writing (recordsIn leaves top horizon (now (nodes .entry)) (now (operands .entry)) (now (differences .entry))) (length (now (buffer .entry))))
+        (r .number) (r .place) (now (buffer .entry)) (now (buffer .exit)) ⌝ }
+{
+    answer_of(write(leaves, top, horizon, nodes, operands, differences, buffer))
+}
