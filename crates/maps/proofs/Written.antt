@@ -46,7 +46,7 @@ module _ (R : Records) (room : ℕ) where
       go (fault k i) (one f) e = let z : _≡_ {A = ℕ} 0 1 = cc in absurd (omega arith)
 
   -- and there it does, or lacks room: "then 8"
-  passes-writing : All Passes (numbers R) → writing R room ≡ within room (spelled (valuesOf (numbers R)))
+  pub passes-writing : All Passes (numbers R) → writing R room ≡ within room (spelled (valuesOf (numbers R)))
   unfolding writing
   passes-writing p = rw (verdict-good 0 (numbers R) p)
 

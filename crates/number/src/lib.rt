@@ -2,7 +2,7 @@
 ghost use mathlib.Core.Path.{_≡_};
 ghost use lib.ListN.{length};
 ghost use Rattle.maps.specs.Number.{number, refusal};
-ghost use Rattle.maps.specs.Read.{inRange, operand};
+ghost use Rattle.maps.specs.Form.{inRange, operand};
 ghost use Rattle.number.specs.Code.{numberMeant};
 ghost use Rattle.ranges.specs.Ranges.{spanMeant, fieldRange};
 use maps::Refusal;

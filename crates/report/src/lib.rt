@@ -7,7 +7,6 @@ use number::Cursor;
 use number::Number;
 use number::number_at;
 
-
 // A number of the plan and where the next begins; past the end, 0 at the end.
 struct Item {
     value: u32,

@@ -6,9 +6,11 @@ use mathlib.Core.List.{List, [], _∷_, map}
 use native.Mathlib.Omega.{arith}
 use lib.Dec.{ltb}
 use lib.ListN.{length, set}
-use Rattle.maps.specs.Number.{Got, got, refusal, Reader, andThen}
+use Rattle.maps.specs.Number.{Got, got, refusal, andThen}
 use Rattle.maps.specs.Sheet.{Sheet, Node, Difference}
-use Rattle.maps.specs.Read.{operand, eachFrom, times, Head, nodeOf, readHead, readNode, readDifference, Header, readHeader, sheetOf, readSheet, Parsed, sheet, refused, whole, parse}
+use Rattle.maps.specs.Form.{Form, done, under, _>>=_, asked, each, times, operand, read}
+use Rattle.maps.specs.Read.{Head, nodeOf, headForm, nodeForm, differenceForm, Header, headerForm, sheetOf, sheetForm, Parsed, sheet, refused, whole, parse}
+use Rattle.maps.proofs.Forms.{then-same, read-bind, read-each}
 use Rattle.maps.proofs.Parse.{counted}
 use Rattle.rows.specs.Table.{nodeRow, headRow, differenceRow, storeFrom, storeRows, nodePlace, operandPlace, differencePlace, noNodes, noDifferences, graphOf, differencesOf, headerOf}
 use Rattle.sheet.specs.Answer.{Answer, header, answerNumber, answerPlace, Tables, tables, readAfter}
@@ -33,18 +35,20 @@ fills-map f (got a next) t went = went
 fills-map f (refusal k p) t stopped = stopped
 
 -- row after row
-module _ {A : Type 0} (row : A → List ℕ) (place : ℕ → ℕ) (s : List ℕ) (r : ℕ → Reader A) (step : ℕ → ℕ → List ℕ → Filled)
-    (each : (i at : ℕ) (g : List ℕ) → Fills (λ a. storeFrom g (place i) (row a)) (r i s at) (step i at g)) where
-  all-rows : (n i at : ℕ) (g : List ℕ) → Fills (λ xs. storeRows place g i (map row xs)) (eachFrom r i n s at) (repeatInto step n i at g)
+module _ {A : Type 0} (row : A → List ℕ) (place : ℕ → ℕ) (s : List ℕ) (f : ℕ → Form A) (step : ℕ → ℕ → List ℕ → Filled)
+    (one : (i at : ℕ) (g : List ℕ) → Fills (λ a. storeFrom g (place i) (row a)) (read (f i) s at) (step i at g)) where
+  all-rows : (n i at : ℕ) (g : List ℕ) → Fills (λ xs. storeRows place g i (map row xs)) (read (each f i n) s at) (repeatInto step n i at g)
   unfolding repeatInto gotOn storeRows
   all-rows zero i at g = went
-  all-rows (suc n) i at g = go (r i s at) (step i at g) (all-rows n (i + 1)) (each i at g)
+  all-rows (suc n) i at g =
+      subst (λ x. Fills (λ xs. storeRows place g i (map row xs)) x (repeatInto step (suc n) i at g)) (sym (read-each f i n s at))
+      (go (read (f i) s at) (step i at g) (all-rows n (i + 1)) (one i at g))
     where
       go : (x : Got A) (t : Filled)
-          → ((next : ℕ) (h : List ℕ) → Fills (λ xs. storeRows place h (i + 1) (map row xs)) (eachFrom r (i + 1) n s next) (repeatInto step n (i + 1) next h))
+          → ((next : ℕ) (h : List ℕ) → Fills (λ xs. storeRows place h (i + 1) (map row xs)) (read (each f (i + 1) n) s next) (repeatInto step n (i + 1) next h))
           → Fills (λ a. storeFrom g (place i) (row a)) x t
           → Fills (λ xs. storeRows place g i (map row xs))
-          (andThen x (λ a next. andThen (eachFrom r (i + 1) n s next) (λ rest last. got (a ∷ rest) last)))
+          (andThen x (λ a next. andThen (read (each f (i + 1) n) s next) (λ rest last. got (a ∷ rest) last)))
           (gotOn (t .end) (λ k p. filled (refusal k p) (t .table)) (λ u next. repeatInto step n (i + 1) next (t .table)))
       go (got a next) t rest went = fills-map (λ xs. a ∷ xs) _ _ (rest next (storeFrom g (place i) (row a)))
       go (refusal k p) t rest stopped = stopped
@@ -66,16 +70,25 @@ behind g p h us e =
 
 module _ (s : List ℕ) where
   operands-filled : (own base count at : ℕ) (g : List ℕ)
-      → Fills (λ us. storeRows (λ j. base + j) g 0 (map (λ u. u ∷ []) us)) (times count (operand own) s at) (operandsInto s own base count at g)
+      → Fills (λ us. storeRows (λ j. base + j) g 0 (map (λ u. u ∷ []) us)) (read (times count (asked (under own))) s at) (operandsInto s own base count at g)
   operands-filled own base count at g =
-      all-rows (λ u. u ∷ []) (λ j. base + j) s (λ i. operand own) (operandInto s own base)
-      (λ i at h. unfold operandInto in one-row (λ u. u ∷ []) (base + i) h (operand own s at)) count 0 at g
+      all-rows (λ u. u ∷ []) (λ j. base + j) s (λ i. asked (under own)) (operandInto s own base)
+      (λ i at h. unfold operandInto in fills-map (λ u. u) (operand own s at) _ (one-row (λ u. u ∷ []) (base + i) h (operand own s at))) count 0 at g
 
-  node-filled : (top own at : ℕ) (g : List ℕ) → Fills (λ v. storeFrom g (nodePlace own) (nodeRow v)) (readNode top own s at) (nodeInto s top own at g)
-  unfolding readNode nodeInto gotOn
-  node-filled top own at g = go (readHead top s at)
+  -- a node is read as its head and then its operands
+  node-read : (top own at : ℕ) → read (nodeForm top own) s at
+      ≡ andThen (read (headForm top) s at) (λ h next. andThen (read (times (h .count) (asked (under own))) s next) (λ us last. got (nodeOf h us) last))
+  unfolding nodeForm
+  node-read top own at =
+      read-bind (headForm top) (λ h. _>>=_ (times (h .count) (asked (under own))) (λ us. done (nodeOf h us))) s at
+      ∙ then-same (read (headForm top) s at) _ _ (λ h next. read-bind (times (h .count) (asked (under own))) (λ us. done (nodeOf h us)) s next)
+
+  node-filled : (top own at : ℕ) (g : List ℕ) → Fills (λ v. storeFrom g (nodePlace own) (nodeRow v)) (read (nodeForm top own) s at) (nodeInto s top own at g)
+  unfolding nodeInto gotOn
+  node-filled top own at g =
+      subst (λ x. Fills (λ v. storeFrom g (nodePlace own) (nodeRow v)) x (nodeInto s top own at g)) (sym (node-read top own at)) (go (read (headForm top) s at))
     where
-      tail : (h : Head) (next : ℕ) (x : Got (List ℕ)) (t : Filled) → times (h .count) (operand own) s next ≡ x
+      tail : (h : Head) (next : ℕ) (x : Got (List ℕ)) (t : Filled) → read (times (h .count) (asked (under own))) s next ≡ x
           → Fills (λ us. storeRows (λ j. operandPlace own + j) (storeFrom g (nodePlace own) (headRow h)) 0 (map (λ u. u ∷ []) us)) x t
           → Fills (λ v. storeFrom g (nodePlace own) (nodeRow v)) (andThen x (λ us last. got (nodeOf h us) last)) t
       tail h next (got us last) t e went =
@@ -85,24 +98,24 @@ module _ (s : List ℕ) where
       tail h next (refusal k p) t e stopped = stopped
 
       go : (x : Got Head) → Fills (λ v. storeFrom g (nodePlace own) (nodeRow v))
-          (andThen x (λ h next. andThen (times (h .count) (operand own) s next) (λ us last. got (nodeOf h us) last)))
+          (andThen x (λ h next. andThen (read (times (h .count) (asked (under own))) s next) (λ us last. got (nodeOf h us) last)))
           (fillOn x g (λ h next. operandsInto s own (operandPlace own) (h .count) next (storeFrom g (nodePlace own) (headRow h))))
       go (got h next) = tail h next _ _ refl (operands-filled own (operandPlace own) (h .count) next (storeFrom g (nodePlace own) (headRow h)))
       go (refusal k p) = stopped
 
   nodes-filled : (top n at : ℕ) (g : List ℕ)
-      → Fills (λ vs. storeRows nodePlace g 0 (map nodeRow vs)) (eachFrom (readNode top) 0 n s at) (nodesInto s top n at g)
-  nodes-filled top n at g = all-rows nodeRow nodePlace s (readNode top) (nodeInto s top) (λ own at h. node-filled top own at h) n 0 at g
+      → Fills (λ vs. storeRows nodePlace g 0 (map nodeRow vs)) (read (each (nodeForm top) 0 n) s at) (nodesInto s top n at g)
+  nodes-filled top n at g = all-rows nodeRow nodePlace s (nodeForm top) (nodeInto s top) (λ own at h. node-filled top own at h) n 0 at g
 
   differences-filled : (n m at : ℕ) (d : List ℕ)
-      → Fills (λ ds. storeRows differencePlace d 0 (map differenceRow ds)) (times m (readDifference n) s at) (differencesInto s n m at d)
+      → Fills (λ ds. storeRows differencePlace d 0 (map differenceRow ds)) (read (times m (differenceForm n)) s at) (differencesInto s n m at d)
   differences-filled n m at d =
-      all-rows differenceRow differencePlace s (λ i. readDifference n) (differenceInto s n)
-      (λ i at h. unfold differenceInto in one-row differenceRow (differencePlace i) h (readDifference n s at)) m 0 at d
+      all-rows differenceRow differencePlace s (λ i. differenceForm n) (differenceInto s n)
+      (λ i at h. unfold differenceInto in one-row differenceRow (differencePlace i) h (read (differenceForm n) s at)) m 0 at d
 
 -- what reading into tables of zeros leaves, against what the definition reads
 data Tied : Parsed → Tables → Type 0 where
-  read : {S : Sheet} → Tied (sheet S) (tables (header (headerOf S)) (graphOf S) (differencesOf S))
+  some : {S : Sheet} → Tied (sheet S) (tables (header (headerOf S)) (graphOf S) (differencesOf S))
   none : {k p : ℕ} {g d : List ℕ} → Tied (refused k p) (tables (Answers.refusal k p) g d)
 
 module _ (s : List ℕ) where
@@ -121,10 +134,10 @@ module _ (s : List ℕ) where
           (tables (cond b (Answers.refusal 5 last) (header h)) (storeRows nodePlace noNodes 0 (map nodeRow vs)) (storeRows differencePlace noDifferences 0 (map differenceRow ds)))
       go true = none
       go false =
-          subst (λ (k : Header). Tied (sheet (sheetOf h vs ds)) (tables (header k) (graphOf (sheetOf h vs ds)) (differencesOf (sheetOf h vs ds)))) same read
+          subst (λ (k : Header). Tied (sheet (sheetOf h vs ds)) (tables (header k) (graphOf (sheetOf h vs ds)) (differencesOf (sheetOf h vs ds)))) same some
 
   after-nodes : (h : Header) (vs : List Node) (next : ℕ) → length vs ≡ h .nodes → (x : Got (List Difference)) (t : Filled)
-      → times (h .differences) (readDifference (h .nodes)) s next ≡ x
+      → read (times (h .differences) (differenceForm (h .nodes))) s next ≡ x
       → Fills (λ ds. storeRows differencePlace noDifferences 0 (map differenceRow ds)) x t
       → Tied (whole s (andThen x (λ ds last. got (sheetOf h vs ds) last)))
       (gotOn (t .end) (λ k p. tables (Answers.refusal k p) (storeRows nodePlace noNodes 0 (map nodeRow vs)) (t .table))
@@ -133,9 +146,9 @@ module _ (s : List ℕ) where
   after-nodes h vs next ev (got ds last) t e went = ended h vs ds last ev (counted _ _ _ s next ds last e)
   after-nodes h vs next ev (refusal k p) t e stopped = none
 
-  after-header : (h : Header) (at : ℕ) (x : Got (List Node)) (t : Filled) → eachFrom (readNode (h .top)) 0 (h .nodes) s at ≡ x
+  after-header : (h : Header) (at : ℕ) (x : Got (List Node)) (t : Filled) → read (each (nodeForm (h .top)) 0 (h .nodes)) s at ≡ x
       → Fills (λ vs. storeRows nodePlace noNodes 0 (map nodeRow vs)) x t
-      → Tied (whole s (andThen x (λ vs next. andThen (times (h .differences) (readDifference (h .nodes)) s next) (λ ds last. got (sheetOf h vs ds) last))))
+      → Tied (whole s (andThen x (λ vs next. andThen (read (times (h .differences) (differenceForm (h .nodes))) s next) (λ ds last. got (sheetOf h vs ds) last))))
       (gotOn (t .end) (λ k p. tables (Answers.refusal k p) (t .table) noDifferences) (λ u next.
       gotOn (differencesInto s (h .nodes) (h .differences) next noDifferences .end)
       (λ k p. tables (Answers.refusal k p) (t .table) (differencesInto s (h .nodes) (h .differences) next noDifferences .table))
@@ -145,13 +158,27 @@ module _ (s : List ℕ) where
       after-nodes h vs next (counted _ _ _ s at vs next e) _ _ refl (differences-filled s (h .nodes) (h .differences) next noDifferences)
   after-header h at (refusal k p) t e stopped = none
 
+  -- a sheet is read as its header, its nodes and its differences
+  sheet-read : read sheetForm s 0
+      ≡ andThen (read headerForm s 0) (λ h at.
+      andThen (read (each (nodeForm (h .top)) 0 (h .nodes)) s at) (λ vs next.
+      andThen (read (times (h .differences) (differenceForm (h .nodes))) s next) (λ ds last. got (sheetOf h vs ds) last)))
+  unfolding sheetForm
+  sheet-read =
+      let rest : Header → List Node → Form Sheet = λ h vs. _>>=_ (times (h .differences) (differenceForm (h .nodes))) (λ ds. done (sheetOf h vs ds)) in
+      read-bind headerForm (λ h. _>>=_ (each (nodeForm (h .top)) 0 (h .nodes)) (rest h)) s 0
+      ∙ then-same (read headerForm s 0) _ _ (λ h at.
+      read-bind (each (nodeForm (h .top)) 0 (h .nodes)) (rest h) s at
+      ∙ then-same (read (each (nodeForm (h .top)) 0 (h .nodes)) s at) _ _ (λ vs next.
+      read-bind (times (h .differences) (differenceForm (h .nodes))) (λ ds. done (sheetOf h vs ds)) s next))
+
   tied : Tied (parse s) (readInto s)
-  unfolding parse readSheet tablesInto gotOn
-  tied = go (readHeader s 0)
+  unfolding parse tablesInto gotOn
+  tied = subst (λ x. Tied (whole s x) (readInto s)) (sym sheet-read) (go (read headerForm s 0))
     where
       go : (x : Got Header) → Tied
-          (whole s (andThen x (λ h at. andThen (eachFrom (readNode (h .top)) 0 (h .nodes) s at) (λ vs next.
-          andThen (times (h .differences) (readDifference (h .nodes)) s next) (λ ds last. got (sheetOf h vs ds) last)))))
+          (whole s (andThen x (λ h at. andThen (read (each (nodeForm (h .top)) 0 (h .nodes)) s at) (λ vs next.
+          andThen (read (times (h .differences) (differenceForm (h .nodes))) s next) (λ ds last. got (sheetOf h vs ds) last)))))
           (gotOn x (λ k p. tables (Answers.refusal k p) noNodes noDifferences) (λ h at.
           gotOn (nodesInto s (h .top) (h .nodes) at noNodes .end)
           (λ k p. tables (Answers.refusal k p) (nodesInto s (h .top) (h .nodes) at noNodes .table) noDifferences) (λ u next.
@@ -167,7 +194,7 @@ module _ (s : List ℕ) where
   read-whole a g d e h q g₀ d₀ = go (parse s) (readInto s) tied e
     where
       go : (x : Parsed) (t : Tables) → Tied x t → tables a g d ≡ t → tables a g d ≡ readAfter x g₀ d₀
-      go (sheet S) t read f = f
+      go (sheet S) t some f = f
       go (refused k p) t none f = let z : _≡_ {A = ℕ} 0 1 = cc (ap (λ (t : Tables). t .answer) f) in absurd (omega arith)
 
   -- the answer was a refusal: it is the definition's
@@ -176,7 +203,7 @@ module _ (s : List ℕ) where
   read-refused a g d e k p q g₀ d₀ = go (parse s) (readInto s) tied e
     where
       go : (x : Parsed) (t : Tables) → Tied x t → tables a g d ≡ t → tables a g₀ d₀ ≡ readAfter x g₀ d₀
-      go (sheet S) t read f = let z : _≡_ {A = ℕ} 0 1 = cc (ap (λ (t : Tables). t .answer) f) in absurd (omega arith)
+      go (sheet S) t some f = let z : _≡_ {A = ℕ} 0 1 = cc (ap (λ (t : Tables). t .answer) f) in absurd (omega arith)
       go (refused j r) t none f = ap (λ (b : Answer). tables b g₀ d₀) (ap (λ (t : Tables). t .answer) f)
 
 -- equal answers and tables, part by part

@@ -5,7 +5,8 @@ use mathlib.Core.List.{List, [], _∷_}
 use lib.Dec.{ltb}
 use lib.ListN.{length}
 use Rattle.maps.specs.Number.{Got, got, refusal}
-use Rattle.maps.specs.Read.{Header, operand, readHead, readDifference, readHeader}
+use Rattle.maps.specs.Form.{operand, read}
+use Rattle.maps.specs.Read.{Header, headForm, differenceForm, headerForm}
 use Rattle.rows.specs.Table.{storeFrom, headRow, differenceRow, nodePlace, operandPlace, differencePlace, noNodes, noDifferences}
 use Rattle.sheet.specs.Answer.{header, Tables, tables}
 use Rattle.sheet.specs.Answer as Answers
@@ -45,7 +46,7 @@ module _ (s : List ℕ) where
   unfoldable pub nodeInto : (top own at : ℕ) → List ℕ → Filled
   unfolding gotOn storeFrom
   nodeInto top own at g =
-      fillOn (readHead top s at) g (λ h next. operandsInto own (operandPlace own) (h .count) next (storeFrom g (nodePlace own) (headRow h)))
+      fillOn (read (headForm top) s at) g (λ h next. operandsInto own (operandPlace own) (h .count) next (storeFrom g (nodePlace own) (headRow h)))
 
   abbrev pub nodesInto : (top n at : ℕ) → List ℕ → Filled
   nodesInto top n at g = repeatInto (nodeInto top) n 0 at g
@@ -54,7 +55,7 @@ module _ (s : List ℕ) where
   unfoldable pub differenceInto : (n i at : ℕ) → List ℕ → Filled
   unfolding gotOn storeFrom
   differenceInto n i at g =
-      fillOn (readDifference n s at) g (λ d next. filled (got tt next) (storeFrom g (differencePlace i) (differenceRow d)))
+      fillOn (read (differenceForm n) s at) g (λ d next. filled (got tt next) (storeFrom g (differencePlace i) (differenceRow d)))
 
   abbrev pub differencesInto : (n m at : ℕ) → List ℕ → Filled
   differencesInto n m at g = repeatInto (differenceInto n) m 0 at g
@@ -71,7 +72,7 @@ module _ (s : List ℕ) where
   -- a whole sheet into two tables
   unfoldable pub tablesInto : (graph differences : List ℕ) → Tables
   unfolding gotOn
-  tablesInto g d = gotOn (readHeader s 0) (λ k p. tables (Answers.refusal k p) g d) (λ h at. rowsInto h at g d)
+  tablesInto g d = gotOn (read headerForm s 0) (λ k p. tables (Answers.refusal k p) g d) (λ h at. rowsInto h at g d)
 
   -- the same into tables without a row
   abbrev pub readInto : Tables

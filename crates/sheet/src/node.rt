@@ -2,7 +2,8 @@
 ghost use mathlib.Core.Path.{_≡_};
 ghost use Prim.Native.Nat.{_≤_, _<_};
 ghost use Rattle.maps.specs.Limits.{topRange, sizeRange};
-ghost use Rattle.maps.specs.Read.{readHead, readDifference, ahead, back};
+ghost use Rattle.maps.specs.Form.{read};
+ghost use Rattle.maps.specs.Read.{headForm, differenceForm, ahead, back};
 ghost use Rattle.sheet.specs.Code.{NotRead, headRead, differenceRead};
 ghost use Rattle.number.specs.declared.Number.the-variants as Number;
 use maps::Level;
@@ -44,7 +45,7 @@ pub fn refusal_of(read: Number) -> Refusal
 // The numbers of a node before its operand ids, where a step has the levels up to top.
 pub fn head_at(sheet: &[u8], c: Cursor, top: u32) -> HeadRead
     requires { ⌜ top ≤ topRange .high ⌝ }
-    ensures { λ r. ⌜ headRead r ≡ readHead top (now (sheet .entry)) (c .at) ⌝ }
+    ensures { λ r. ⌜ headRead r ≡ read (headForm top) (now (sheet .entry)) (c .at) ⌝ }
 {
     let kind_read = field_at(sheet, c, Field::Kind);
     let Number::Value {
@@ -119,7 +120,7 @@ pub fn back_of(code: u32) -> u32
 // The numbers of a difference among n nodes.
 pub fn difference_at(sheet: &[u8], c: Cursor, n: u32) -> DifferenceRead
     requires { ⌜ (0 < n) × (n ≤ sizeRange .high) ⌝ }
-    ensures { λ r. ⌜ differenceRead r ≡ readDifference n (now (sheet .entry)) (c .at) ⌝ }
+    ensures { λ r. ⌜ differenceRead r ≡ read (differenceForm n) (now (sheet .entry)) (c .at) ⌝ }
 {
     let ids = range_of(Field::Id).up_to(n - 1);
     let from_read = field_in(sheet, c, ids);

@@ -1,6 +1,7 @@
 // Reads a whole sheet: the header, the nodes, the differences, and nothing after them.
 ghost use mathlib.Core.Path.{_≡_};
-ghost use Rattle.maps.specs.Read.{readHeader};
+ghost use Rattle.maps.specs.Form.{read};
+ghost use Rattle.maps.specs.Read.{headerForm};
 ghost use Prim.Native.Nat.{_≤_, _<_};
 ghost use Rattle.maps.specs.Limits.{topRange, sizeRange, countRange};
 ghost use Rattle.rows.specs.Code.{headerMeant};
@@ -34,7 +35,7 @@ pub enum Reading {
 
 // The five numbers at the head of a sheet.
 pub fn header_at(sheet: &[u8]) -> HeaderRead
-    ensures { λ r. ⌜ headerRead r ≡ readHeader (now (sheet .entry)) 0 ⌝ }
+    ensures { λ r. ⌜ headerRead r ≡ read headerForm (now (sheet .entry)) 0 ⌝ }
 {
     let read1 = field_at(sheet, Cursor { at: 0 }, Field::Leaves);
     let Number::Value {

@@ -1,5 +1,5 @@
 -- The ranges of the sheet's fields, and the numbers of a row.
-use Prim.Native.Nat.{ℕ, suc, _+_, _-_, _*_, _≤_, _<_, min}
+use Prim.Native.Nat.{ℕ, zero, suc, _+_, _-_, _*_, _≤_, _<_, min}
 use mathlib.Core.Path.{_≡_, refl, sym, ap, _∙_}
 use native.Mathlib.Omega.{arith}
 use native.Mathlib.Numerals.{add-one}
@@ -8,6 +8,7 @@ use lib.ListN.{length}
 use mathlib.Core.List.{List}
 use borrow.Author.Tests.{lt-ltb, le-ltb}
 use Rattle.maps.specs.Number.{values}
+use Rattle.maps.specs.Limits.{topRange, rangesOf}
 use Rattle.maps.specs.Write.{codeOfWeight}
 use Rattle.ranges.specs.Ranges.{spanOf, fieldRange}
 use Rattle.ranges.specs.declared.Span.{Span}
@@ -30,6 +31,13 @@ field-small f e = omega (arith, ap (λ (r : Span). r .high) e, go f)
     go Is.Mark = omega arith
     go Is.Id = omega arith
     go Is.Weight = omega arith
+
+-- and every number of a node before its operand ids
+pub ranges-small : (top kind : ℕ) → top ≤ topRange .high
+    → (rangesOf top kind .delay .high < values) × (rangesOf top kind .latency .high < values) × (rangesOf top kind .operands .high < values)
+ranges-small top zero l = (omega arith, omega arith, omega arith)
+ranges-small top (suc zero) l = (omega arith, omega arith, omega arith)
+ranges-small top (suc (suc k)) l = (omega arith, omega arith, omega arith)
 
 -- the code of a weight from its 32 bits
 pub code-plus : (x : ℕ) → x < 2147483648 → codeOfWeight (signed x) ≡ 2 * x

@@ -1,3 +1,4 @@
-pub mod Temp
 pub mod Wroting
 pub mod Fields
+pub mod NodeRows
+pub mod Sheets

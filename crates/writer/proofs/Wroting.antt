@@ -2,7 +2,7 @@
 use Prim.Native.Nat.{ℕ, zero, suc, _+_, _-_, _*_, _<_, _≤_}
 use mathlib.Core.Path.{_≡_, refl, sym, ap, _∙_}
 use mathlib.Core.Bool.{Bool, true, false, _&&_}
-use mathlib.Core.List.{List, [], _∷_, _++_, map, append-nil, append-assoc}
+use mathlib.Core.List.{List, [], _∷_, _++_, map, append-nil, append-assoc, map-append}
 use native.Mathlib.Omega.{arith}
 use native.Mathlib.Nat.{add-zero}
 use native.Mathlib.Numerals.{add-one}
@@ -17,13 +17,14 @@ use Rattle.maps.specs.Form.{Rule, among, under, passes, ground}
 use Rattle.maps.specs.Write.{Entry, entry, Passes, First, valuesOf, spelled}
 use Rattle.maps.specs.declared.Refusal.{Refusal}
 use Rattle.maps.specs.declared.Refusal.the-variants.{Range, Operand}
+use Rattle.maps.proofs.Member.{All-join}
+use Rattle.maps.proofs.Numbers.{spelled-append, first-later, first-sooner, concat-snoc}
 use Rattle.bytes.specs.Put.{Put}
 use Rattle.bytes.proofs.Putting.{put-none, put-then}
 use Rattle.writer.specs.declared.numbers.Pen.{Pen}
 use Rattle.writer.specs.declared.numbers.Progress.{Progress}
 use Rattle.writer.specs.declared.numbers.Progress.the-variants.{Next, Refused}
 use Rattle.writer.specs.Wrote.{Room, Wrote, on, off}
-use Rattle.writer.proofs.Temp.{all-join, values-append, spelled-append, first-later, first-sooner, concat-snoc}
 
 abbrev pub pen : (at number : ℕ) → Pen
 pen a n = record { at = a; number = n }
@@ -66,18 +67,26 @@ wrote-stop es ds (off j f q l) = off j (first-sooner es ds _ j f) q l
 pub wrote-then : (es ds : List Entry) {a b c : List ℕ} {p next : Pen} {r : Progress} → Wrote es a b p (Next next) → Wrote ds b c next r
     → Wrote (es ++ ds) a c p r
 wrote-then es ds (on good f n) (on {next = last} more g m) =
-    on {next = last} (all-join Passes es ds good more)
-    (rw (values-append es ds, spelled-append (valuesOf es) (valuesOf ds)) (put-then _ (omega (arith, length-append es ds)) f g))
+    on {next = last} (All-join Passes es ds good more)
+    (rw (map-append (λ (e : Entry). e .value) es ds, spelled-append (valuesOf es) (valuesOf ds)) (put-then _ (omega (arith, length-append es ds)) f g))
     (omega (arith, length-append es ds))
 wrote-then es ds (on good f n) (off {w = w} j g q l) = off {w = w} (length es + j) (first-later es ds _ j good g) (omega arith) (l ∙ f .wide)
 
--- the same of an answer r that was looked at
-pub stop-there : (es ds : List Entry) {a b : List ℕ} {p : Pen} {r : Progress} {w : Refusal} → r ≡ Refused w → Wrote es a b p r → Wrote (es ++ ds) a b p r
-stop-there es ds e h = rw e (wrote-stop es ds (rw e at h))
+-- the same of an answer that was looked at: the first part, one more, and the part that stopped before `rest`
+pub begun : {es : List Entry} {a b : List ℕ} {p next : Pen} {q : Progress} → q ≡ Next next → Wrote es a b p q → Wrote es a b p (Next next)
+begun e h = rw e at h
 
-pub go-on : (es ds : List Entry) {a b c : List ℕ} {p next : Pen} {q r : Progress} → q ≡ Next next → Wrote es a b p q → Wrote ds b c next r
+pub more : {es ds : List Entry} {a b c : List ℕ} {p next last : Pen} {q : Progress} → Wrote es a b p (Next next) → q ≡ Next last → Wrote ds b c next q
+    → Wrote (es ++ ds) a c p (Next last)
+more {es} {ds} h e k = wrote-then es ds h (rw e at k)
+
+pub stopped : {es : List Entry} (rest : List Entry) {a b : List ℕ} {p : Pen} {q : Progress} {w : Refusal} → q ≡ Refused w → Wrote es a b p q
+    → Wrote (es ++ rest) a b p q
+stopped {es} rest e h = rw e (wrote-stop es rest (rw e at h))
+
+pub last-one : {es ds : List Entry} {a b c : List ℕ} {p next : Pen} {r : Progress} → Wrote es a b p (Next next) → Wrote ds b c next r
     → Wrote (es ++ ds) a c p r
-go-on es ds e h k = wrote-then es ds (rw e at h) k
+last-one {es} {ds} h k = wrote-then es ds h k
 
 -- the buffer keeps its length
 pub wrote-wide : {es : List Entry} {a b : List ℕ} {p : Pen} {r : Progress} → Wrote es a b p r → length b ≡ length a
@@ -90,11 +99,15 @@ pub record Come (n : ℕ) (a b : List ℕ) (p next : Pen) : Type 0 where
   pub counted : next .number ≤ p .number + n
   pub wide : length b ≡ length a
 
-pub has-come : (es : List Entry) {a b : List ℕ} {p next : Pen} {r : Progress} → r ≡ Next next → Wrote es a b p r → Come (length es) a b p next
-has-come es e h = go (rw e at h)
-  where
-    go : {a b : List ℕ} {p next : Pen} → Wrote es a b p (Next next) → Come (length es) a b p next
-    go (on good f n) = record { near = f .near; counted = omega arith; wide = f .wide }
+pub has-come : {es : List Entry} {a b : List ℕ} {p next : Pen} → Wrote es a b p (Next next) → Come (length es) a b p next
+has-come (on good f n) = record { near = f .near; counted = omega arith; wide = f .wide }
+
+pub come-none : (a : List ℕ) (p : Pen) → Come 0 a a p p
+come-none a p = record { near = omega arith; counted = omega arith; wide = refl }
+
+pub come-then : {n m : ℕ} (k : ℕ) {a b c : List ℕ} {p next last : Pen} → n + m ≤ k → Come n a b p next → Come m b c next last → Come k a c p last
+come-then k l f g =
+    record { near = omega (arith, f .near, g .near); counted = omega (arith, f .counted, g .counted); wide = g .wide ∙ f .wide }
 
 -- and what room is left after them
 pub room-left : {n : ℕ} (k : ℕ) {m : ℕ} {a b : List ℕ} {p next : Pen} → n + k ≤ m → Come n a b p next → Room m a p → Room k b next
@@ -125,7 +138,7 @@ module _ (f : ℕ → List Entry) (j : ℕ) where
   rows-stop n l e h k =
       let q : n ≡ suc j + (n - suc j) = omega arith in
       rw (q, rows-split f (n - suc j) (suc j))
-      (stop-there (concat (map f (below (suc j)))) (concat (map (λ m. f (suc j + m)) (below (n - suc j)))) e (rows-more f j h k))
+      (stopped (concat (map (λ m. f (suc j + m)) (below (n - suc j)))) e (rows-more f j h k))
 
   pub rows-all : (n : ℕ) → j ≤ n → n ≤ j → {a b : List ℕ} {p : Pen} {r : Progress} → Wrote (concat (map f (below j))) a b p r
       → Wrote (concat (map f (below n))) a b p r

@@ -24,7 +24,15 @@ use ranges::range_of;
 use ranges::ranges_of;
 
 // Writes K, T, H, and how many nodes and differences there are.
-pub fn put_header(leaves: u32, top: u32, horizon: u32, n: usize, m: usize, bytes: &mut [u8], pen: Pen) -> Progress
+pub fn put_header(
+    leaves: u32,
+    top: u32,
+    horizon: u32,
+    n: usize,
+    m: usize,
+    bytes: &mut [u8],
+    pen: Pen,
+) -> Progress
     requires { ⌜ Room headerMost (now bytes) pen ⌝ }
     ensures { λ r. ⌜ Wrote (entry (among leavesRange) leaves ∷ entry (among topRange) top ∷ entry (among horizonRange) horizon
         ∷ entry (among sizeRange) n ∷ entry (among countRange) m ∷ []) (now (bytes .entry)) (now (bytes .exit)) pen r ⌝ }
@@ -56,25 +64,25 @@ pub fn put_head(row: NodeRow, top: u32, count: usize, bytes: &mut [u8], pen: Pen
         ∷ entry (among (rangesOf top (row .kind) .operands)) count ∷ []) (now (bytes .entry)) (now (bytes .exit)) pen r ⌝ }
 {
     let kind = row.kind;
+    let mark = row.output as u64;
+    let delay = row.delay as u64;
+    let latency = row.latency as u64;
     let kind_put = put_field(bytes, pen, Field::Kind, kind as u64);
     let Progress::Next(p1) = kind_put else {
         return kind_put;
     };
-    let mark = row.output;
-    let mark_put = put_field(bytes, p1, Field::Mark, mark as u64);
+    let mark_put = put_field(bytes, p1, Field::Mark, mark);
     let Progress::Next(p2) = mark_put else {
         return mark_put;
     };
     let all = ranges_of(kind);
     let delays = all.delay;
-    let delay = row.delay;
-    let delay_put = put_in(bytes, p2, delays.up_to(top), delay as u64);
+    let delay_put = put_in(bytes, p2, delays.up_to(top), delay);
     let Progress::Next(p3) = delay_put else {
         return delay_put;
     };
     let latencies = all.latency;
-    let latency = row.latency;
-    let latency_put = put_in(bytes, p3, latencies, latency as u64);
+    let latency_put = put_in(bytes, p3, latencies, latency);
     let Progress::Next(p4) = latency_put else {
         return latency_put;
     };
@@ -83,7 +91,14 @@ pub fn put_head(row: NodeRow, top: u32, count: usize, bytes: &mut [u8], pen: Pen
 }
 
 // Writes the operands of the node own: `count` of them from `first` on.
-pub fn put_operands(operands: &[u32], first: usize, count: usize, own: u32, bytes: &mut [u8], pen: Pen) -> Progress
+pub fn put_operands(
+    operands: &[u32],
+    first: usize,
+    count: usize,
+    own: u32,
+    bytes: &mut [u8],
+    pen: Pen,
+) -> Progress
     requires { ⌜ (first + count ≤ length (now operands)) × (own ≤ sizeRange .high) × Room count (now bytes) pen ⌝ }
     ensures { λ r. ⌜ Wrote (map (entry (under own)) (take count (drop first (now (operands .entry))))) (now (bytes .entry)) (now (bytes .exit)) pen r ⌝ }
 {
@@ -102,7 +117,15 @@ pub fn put_operands(operands: &[u32], first: usize, count: usize, own: u32, byte
 }
 
 // Writes node v, whose operands are those from `first` on.
-pub fn put_node(nodes: &[u32], operands: &[u32], v: usize, first: usize, top: u32, bytes: &mut [u8], pen: Pen) -> Progress
+pub fn put_node(
+    nodes: &[u32],
+    operands: &[u32],
+    v: usize,
+    first: usize,
+    top: u32,
+    bytes: &mut [u8],
+    pen: Pen,
+) -> Progress
     requires { ⌜ (nodePlace (v + 1) ≤ length (now nodes)) × (v < sizeRange .high) × (first ≡ endOf (now nodes) (now operands) v) ⌝ }
     requires { ⌜ (top ≤ topRange .high) × Room nodeMost (now bytes) pen ⌝ }
     ensures { λ r. ⌜ Wrote (nodeNumbers top v (nodeIn (now (nodes .entry)) (now (operands .entry)) v)) (now (bytes .entry)) (now (bytes .exit)) pen r ⌝ }
@@ -121,7 +144,14 @@ pub fn put_node(nodes: &[u32], operands: &[u32], v: usize, first: usize, top: u3
 }
 
 // Writes n nodes.
-pub fn put_nodes(nodes: &[u32], operands: &[u32], n: usize, top: u32, bytes: &mut [u8], pen: Pen) -> Progress
+pub fn put_nodes(
+    nodes: &[u32],
+    operands: &[u32],
+    n: usize,
+    top: u32,
+    bytes: &mut [u8],
+    pen: Pen,
+) -> Progress
     requires { ⌜ (nodePlace n ≤ length (now nodes)) × (n ≤ sizeRange .high) × (top ≤ topRange .high) × Room (n * nodeMost) (now bytes) pen ⌝ }
     ensures { λ r. ⌜ Wrote (concat (map (λ v. nodeNumbers top v (nodeIn (now (nodes .entry)) (now (operands .entry)) v)) (below n))) (now (bytes .entry)) (now (bytes .exit)) pen r ⌝ }
 {
@@ -162,7 +192,13 @@ pub fn put_difference(differences: &[u32], j: usize, n: u32, bytes: &mut [u8], p
 }
 
 // Writes m differences among n nodes.
-pub fn put_differences(differences: &[u32], m: usize, n: u32, bytes: &mut [u8], pen: Pen) -> Progress
+pub fn put_differences(
+    differences: &[u32],
+    m: usize,
+    n: u32,
+    bytes: &mut [u8],
+    pen: Pen,
+) -> Progress
     requires { ⌜ (differencePlace m ≤ length (now differences)) × (0 < n) × (n ≤ sizeRange .high) × Room (m * differenceMost) (now bytes) pen ⌝ }
     ensures { λ r. ⌜ Wrote (concat (map (λ j. differenceNumbers n (differenceIn (now (differences .entry)) j)) (below m))) (now (bytes .entry)) (now (bytes .exit)) pen r ⌝ }
 {

@@ -5,10 +5,6 @@ ghost use Rattle.maps.specs.Write.{numbers, writing};
 ghost use Rattle.bytes.specs.Outcome.{Answered, numberAnswered, placeAnswered};
 ghost use Rattle.writer.specs.Rows.{recordsIn};
 ghost use Rattle.writer.specs.Wrote.{sheetRoom, start, Wrote};
-use bytes::Answer;
-use bytes::Outcome;
-use bytes::answer_of;
-use bytes::hand_over;
 use crate::numbers::Pen;
 use crate::numbers::Progress;
 use crate::parts::put_differences;
@@ -16,6 +12,10 @@ use crate::parts::put_header;
 use crate::parts::put_nodes;
 use crate::records::difference_count;
 use crate::records::node_count;
+use bytes::Answer;
+use bytes::Outcome;
+use bytes::answer_of;
+use bytes::hand_over;
 
 // Room for every number of the longest sheet in two bytes.
 pub type SheetBytes = [u8; 11786];
@@ -61,7 +61,15 @@ pub fn write(
         (numberAnswered r) (placeAnswered r) (now (buffer .entry)) (now (buffer .exit)) ⌝ }
 {
     let mut bytes = [0u8; 11786];
-    let made = make_sheet(leaves, top, horizon, nodes, operands, differences, &mut bytes);
+    let made = make_sheet(
+        leaves,
+        top,
+        horizon,
+        nodes,
+        operands,
+        differences,
+        &mut bytes,
+    );
     match made {
         Progress::Refused(why) => Outcome::Refused(why),
         Progress::Next(pen) => {

@@ -1,4 +1,4 @@
--- `number::field_in` meets its contract: the number that was read and the tests say which case of `ranged` holds.
+-- `number::field_in` meets its contract: the number that was read and the tests say which case of `inRange` holds.
 use borrow.Author.Needs.{needs}
 use borrow.Author.Tests.{lt-leb, le-leb}
 use Rattle.number.proofs.field_in.Statement.{statement}

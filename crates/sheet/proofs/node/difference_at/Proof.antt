@@ -1,12 +1,12 @@
 -- `node::difference_at` meets its contract: one number after the other, as the definition reads them.
-use Rattle.maps.specs.Read.{readDifference}
+use Rattle.maps.specs.Read.{differenceForm}
 use Rattle.ranges.proofs.RangeLaws.{ids-right}
 use borrow.Author.Needs.{needs}
 use Rattle.sheet.proofs.node.difference_at.Statement.{statement}
 use Rattle.sheet.proofs.node.difference_at.Tie as tie
 
 returns : tie.Need-returns
-unfolding readDifference
+unfolding differenceForm
 returns c =
     let f = c .before .before .before in
     let s = f .before .before .before .before in
@@ -14,7 +14,7 @@ returns c =
     rw (← (rw (ids .0, ids .1) at (f .field-in .ensures)), c .refusal-of .ensures)
 
 returns-2 : tie.Need-returns-2
-unfolding readDifference
+unfolding differenceForm
 returns-2 c =
     let g = c .before .before .before in
     let p = g .before in
@@ -24,7 +24,7 @@ returns-2 c =
     rw (← (rw (ids .0, ids .1) at (f .field-in .ensures)), p .before .from-read .given .1, ← (rw (ids .0, ids .1) at (g .field-in2 .ensures)), c .refusal-of2 .ensures)
 
 returns-3 : tie.Need-returns-3
-unfolding readDifference
+unfolding differenceForm
 returns-3 c =
     let h = c .before .before .before in
     let q = h .before in
@@ -43,7 +43,7 @@ returns-3 c =
     )
 
 returns-4 : tie.Need-returns-4
-unfolding readDifference
+unfolding differenceForm
 returns-4 c =
     let r = c .before .before in
     let h = r .before .before .before in

@@ -1,12 +1,12 @@
 -- `node::head_at` meets its contract: one number after the other, each in the range that the table gives for the kind.
-use Rattle.maps.specs.Read.{readHead}
+use Rattle.maps.specs.Read.{headForm}
 use Rattle.ranges.proofs.RangeLaws.{delays-right, latencies-right, operands-right}
 use borrow.Author.Needs.{needs}
 use Rattle.sheet.proofs.node.head_at.Statement.{statement}
 use Rattle.sheet.proofs.node.head_at.Tie as tie
 
 returns : tie.Need-returns
-unfolding readHead
+unfolding headForm
 returns c =
     let f1 = c .before .before .before in
     rw (
@@ -15,7 +15,7 @@ returns c =
     )
 
 returns-2 : tie.Need-returns-2
-unfolding readHead
+unfolding headForm
 returns-2 c =
     let f2 = c .before .before .before in
     let p1 = f2 .before in
@@ -28,7 +28,7 @@ returns-2 c =
     )
 
 returns-3 : tie.Need-returns-3
-unfolding readHead
+unfolding headForm
 returns-3 c =
     let f3 = c .before .before .before in
     let p2 = f3 .before .before .before .before in
@@ -49,7 +49,7 @@ returns-3 c =
     )
 
 returns-4 : tie.Need-returns-4
-unfolding readHead
+unfolding headForm
 returns-4 c =
     let f4 = c .before .before .before in
     let p3 = f4 .before .before in
@@ -75,7 +75,7 @@ returns-4 c =
     )
 
 returns-5 : tie.Need-returns-5
-unfolding readHead
+unfolding headForm
 returns-5 c =
     let f5 = c .before .before .before in
     let p4 = f5 .before .before in
@@ -106,7 +106,7 @@ returns-5 c =
     )
 
 returns-6 : tie.Need-returns-6
-unfolding readHead
+unfolding headForm
 returns-6 c =
     let p5 = c .before in
     let f5 = p5 .before .before .before in

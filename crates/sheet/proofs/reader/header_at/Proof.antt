@@ -1,11 +1,11 @@
 -- `reader::header_at` meets its contract: one number after the other, each in its range.
-use Rattle.maps.specs.Read.{readHeader}
+use Rattle.maps.specs.Read.{headerForm}
 use borrow.Author.Needs.{needs}
 use Rattle.sheet.proofs.reader.header_at.Statement.{statement}
 use Rattle.sheet.proofs.reader.header_at.Tie as tie
 
 returns : tie.Need-returns
-unfolding readHeader
+unfolding headerForm
 returns c =
     let f1 = c .before .before .before in
     rw (
@@ -14,7 +14,7 @@ returns c =
     )
 
 returns-2 : tie.Need-returns-2
-unfolding readHeader
+unfolding headerForm
 returns-2 c =
     let f2 = c .before .before .before in
     let p1 = f2 .before in
@@ -27,7 +27,7 @@ returns-2 c =
     )
 
 returns-3 : tie.Need-returns-3
-unfolding readHeader
+unfolding headerForm
 returns-3 c =
     let f3 = c .before .before .before in
     let p2 = f3 .before in
@@ -44,7 +44,7 @@ returns-3 c =
     )
 
 returns-4 : tie.Need-returns-4
-unfolding readHeader
+unfolding headerForm
 returns-4 c =
     let f4 = c .before .before .before in
     let p3 = f4 .before in
@@ -65,7 +65,7 @@ returns-4 c =
     )
 
 returns-5 : tie.Need-returns-5
-unfolding readHeader
+unfolding headerForm
 returns-5 c =
     let f5 = c .before .before .before in
     let p4 = f5 .before in
@@ -90,7 +90,7 @@ returns-5 c =
     )
 
 returns-6 : tie.Need-returns-6
-unfolding readHeader
+unfolding headerForm
 returns-6 c =
     let f5 = c .before .before .before in
     let p4 = f5 .before in

@@ -1,0 +1,75 @@
+-- The numbers of a node from its row and the array of operand ids.
+use Prim.Native.Nat.{ℕ, zero, suc, _+_, _-_, _≤_, min}
+use mathlib.Core.Path.{_≡_, refl, sym, ap, _∙_}
+use mathlib.Core.List.{List, [], _∷_, _++_, map}
+use native.Mathlib.Omega.{arith}
+use native.Mathlib.Numerals.{add-one}
+use lib.ListN.{length, take, drop, length-drop, length-map}
+use lib.Seq.{length-take-le}
+use Rattle.maps.specs.Lists.{All}
+use Rattle.maps.specs.Limits.{kindRange, markRange, rangesOf, operandsMost}
+use Rattle.maps.specs.Form.{among, under}
+use Rattle.maps.specs.Write.{Entry, entry, Passes, nodeNumbers}
+use Rattle.maps.proofs.Parse.{in-range}
+use Rattle.writer.specs.Rows.{nodeRow, endOf, operandsIn, nodeIn}
+use Rattle.writer.specs.Wrote.{nodeMost, Wrote, on}
+use Rattle.writer.specs.declared.records.NodeRow.{NodeRow}
+use Rattle.writer.specs.declared.numbers.Pen.{Pen}
+use Rattle.writer.specs.declared.numbers.Progress.the-variants.{Next}
+use Rattle.writer.proofs.Wroting.{Come}
+
+-- the numbers of a node before its operand ids, of which there are `count`
+abbrev pub headOf : (top : ℕ) → NodeRow → (count : ℕ) → List Entry
+headOf top row count =
+    entry (among kindRange) (row .kind)
+    ∷ entry (among markRange) (row .output)
+    ∷ entry (among (rangesOf top (row .kind) .delay)) (row .delay)
+    ∷ entry (among (rangesOf top (row .kind) .latency)) (row .latency)
+    ∷ entry (among (rangesOf top (row .kind) .operands)) count
+    ∷ []
+
+-- where they pass there are few operands
+few : (top kind : ℕ) {n : ℕ} → n ≤ rangesOf top kind .operands .high → n ≤ operandsMost
+few top zero l = omega arith
+few top (suc zero) l = l
+few top (suc (suc k)) l = l
+
+pub head-few : (top count : ℕ) (row : NodeRow) {a b : List ℕ} {p next : Pen} → Wrote (headOf top row count) a b p (Next next) → count ≤ operandsMost
+head-few top count row (on good f n) =
+    few top (row .kind) (in-range (rangesOf top (row .kind) .operands) count (good .1 .1 .1 .1 .0) .most)
+
+end-most : (nodes operands : List ℕ) (v : ℕ) → endOf nodes operands v ≤ length operands
+end-most nodes operands zero = omega arith
+end-most nodes operands (suc v) = omega arith
+
+-- the operands of node v are `count` of them from `first` on
+module _ (nodes operands : List ℕ) (v first end count : ℕ) (begins : first ≡ endOf nodes operands v) (ends : end ≡ endOf nodes operands (v + 1))
+    (counts : count ≡ end - first) where
+  pub within-array : first + count ≤ length operands
+  within-array = omega (arith, end-most nodes operands v, end-most nodes operands (v + 1))
+
+  operands-are : operandsIn nodes operands v ≡ take count (drop first operands)
+  operands-are =
+      let e : end ≡ endOf nodes operands (suc v) = rw (add-one v) at ends in
+      let n : endOf nodes operands (suc v) - endOf nodes operands v ≡ count = omega arith in
+      rw (n, ← begins)
+
+  operands-count : length (take count (drop first operands)) ≡ count
+  operands-count = length-take-le count (drop first operands) (omega (arith, length-drop first operands, within-array))
+
+  pub node-numbers : (top : ℕ) (row : NodeRow) → row ≡ nodeRow nodes v
+      → nodeNumbers top v (nodeIn nodes operands v) ≡ headOf top row count ++ map (entry (under v)) (take count (drop first operands))
+  node-numbers top row e = rw (e, operands-are, operands-count)
+
+-- how many numbers a node that passes has at most
+pub node-most : (top : ℕ) (nodes operands : List ℕ) (v : ℕ) → All Passes (nodeNumbers top v (nodeIn nodes operands v))
+    → length (nodeNumbers top v (nodeIn nodes operands v)) ≤ nodeMost
+node-most top nodes operands v good =
+    let c = length (operandsIn nodes operands v) in
+    let l = few top (nodeRow nodes v .kind) (in-range (rangesOf top (nodeRow nodes v .kind) .operands) c (good .1 .1 .1 .1 .0) .most) in
+    omega (arith, length-map (operandsIn nodes operands v) (entry (under v)))
+
+pub node-come : (top : ℕ) (nodes operands : List ℕ) (v : ℕ) {a b : List ℕ} {p next : Pen} → Wrote (nodeNumbers top v (nodeIn nodes operands v)) a b p (Next next)
+    → Come nodeMost a b p next
+node-come top nodes operands v (on good f n) =
+    record { near = omega (arith, f .near, node-most top nodes operands v good); counted = omega (arith, n, node-most top nodes operands v good); wide = f .wide }
