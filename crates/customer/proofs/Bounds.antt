@@ -23,10 +23,10 @@ use Rattle.maps.proofs.Member.{All-of, everywhere, below-out}
 use Rattle.maps.proofs.Over.{length-over}
 use Rattle.maps.proofs.Chosen.{best-in, carrying-sound}
 use Rattle.maps.specs.Outcome.{accepted, refusal, outcome, outcomeNumber}
-use Rattle.maps.proofs.Parse.{parse-well}
+use Rattle.maps.specs.Number.{Bytes}
+use Rattle.maps.proofs.Refusing.{refuses-number}
 use Rattle.customer.specs.Bounds.{rowMost, planMost, Bounded}
 use Rattle.customer.specs.Demands.{Ground, unread, uncut, tooLate, tooShort, planned}
-use Rattle.customer.proofs.Grounds.{parse-grounds}
 use Rattle.customer.proofs.Demands.{ground-of}
 
 -- a number has at most two bytes, and one below 128 has one
@@ -95,23 +95,23 @@ module _ (S : Sheet) (well : WellFormed S) (L : List Label) (ok : Legal S (at L)
 
 module _ (bytes : List ℕ) (room : ℕ) where
   number-most : {k p : ℕ} → Ground bytes room k p → k ≤ 8
-  number-most (unread k p f) = omega (arith, parse-grounds bytes k p f .1)
+  number-most (unread k p f) = omega (arith, refuses-number f .1)
   number-most (uncut S v f h) = omega arith
   number-most (tooLate S f a n) = omega arith
   number-most (tooShort S L f a h l) = omega arith
   number-most (planned S L f a h l) = omega arith
 
   place-most : {k p : ℕ} → Ground bytes room k p → (k ≡ 0) ⊎ (k ≡ 8) → p ≤ planMost
-  place-most (unread k p f) (inl e) = absurd (omega (arith, parse-grounds bytes k p f .0))
-  place-most (unread k p f) (inr e) = absurd (omega (arith, parse-grounds bytes k p f .1))
+  place-most (unread k p f) (inl e) = absurd (omega (arith, refuses-number f .0))
+  place-most (unread k p f) (inr e) = absurd (omega (arith, refuses-number f .1))
   place-most (uncut S v f h) (inl e) = absurd (omega arith)
   place-most (uncut S v f h) (inr e) = absurd (omega arith)
   place-most (tooLate S f a n) e = omega arith
-  place-most (tooShort S L f a h l) e = plan-length S (parse-well bytes S f) L (h .isLeast .legal)
-  place-most (planned S L f a h l) e = plan-length S (parse-well bytes S f) L (h .isLeast .legal)
+  place-most (tooShort S L f a h l) e = plan-length S (f .well) L (h .isLeast .legal)
+  place-most (planned S L f a h l) e = plan-length S (f .well) L (h .isLeast .legal)
 
   room-less : {k p : ℕ} → Ground bytes room k p → k ≡ 8 → room < p
-  room-less (unread k p f) e = absurd (omega (arith, parse-grounds bytes k p f .1))
+  room-less (unread k p f) e = absurd (omega (arith, refuses-number f .1))
   room-less (uncut S v f h) e = absurd (omega arith)
   room-less (tooLate S f a n) e = absurd (omega arith)
   room-less (tooShort S L f a h l) e = l
@@ -127,14 +127,15 @@ module _ (bytes : List ℕ) (room : ℕ) where
       }
 
   -- the same of the defined outcome
-  pub outcome-number : outcomeNumber (outcome bytes room) ≤ 8
-  outcome-number = number-most (ground-of bytes room)
+  module _ (b : Bytes bytes) where
+    pub outcome-number : outcomeNumber (outcome bytes room) ≤ 8
+    outcome-number = number-most (ground-of bytes room b)
 
-  pub written-most : (p : List ℕ) → outcome bytes room ≡ accepted p → length p ≤ planMost
-  written-most p e = place-most (rw e at (ground-of bytes room)) (inl refl)
+    pub written-most : (p : List ℕ) → outcome bytes room ≡ accepted p → length p ≤ planMost
+    written-most p e = place-most (rw e at (ground-of bytes room b)) (inl refl)
 
-  pub wanted-most : (k : ℕ) → outcome bytes room ≡ refusal 8 k → k ≤ planMost
-  wanted-most k e = place-most (rw e at (ground-of bytes room)) (inr refl)
+    pub wanted-most : (k : ℕ) → outcome bytes room ≡ refusal 8 k → k ≤ planMost
+    wanted-most k e = place-most (rw e at (ground-of bytes room b)) (inr refl)
 
-  pub enough : planMost ≤ room → (k : ℕ) → outcome bytes room ≡ refusal 8 k → ⊥
-  enough l k e = let g = rw e at (ground-of bytes room) in omega (arith, room-less g refl, place-most g (inr refl))
+    pub enough : planMost ≤ room → (k : ℕ) → outcome bytes room ≡ refusal 8 k → ⊥
+    enough l k e = let g = rw e at (ground-of bytes room b) in omega (arith, room-less g refl, place-most g (inr refl))

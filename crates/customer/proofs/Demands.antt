@@ -7,7 +7,6 @@ use mathlib.Core.Logic.{_⊎_, inl, inr}
 use native.Mathlib.Omega.{arith}
 use lib.Dec.{leb, ltb, eqb}
 use lib.ListN.{length, take, drop}
-use lib.Seq.{take-at, drop-at}
 use borrow.Author.Tests.{leb-true, leb-false, le-leb, lt-leb, ltb-true, ltb-false, eqb-true}
 use Rattle.maps.specs.Lists.{mem, keep, below}
 use Rattle.maps.specs.Label.{Label}
@@ -17,7 +16,9 @@ use Rattle.maps.specs.Legal.{Legal, CarryingCut, NoneLegal}
 use Rattle.maps.specs.Least.{at, Labels, late, least, leastLabels, Answer, none, some}
 use Rattle.maps.specs.Cover.{Used, used, chosenCut}
 use Rattle.maps.specs.Plan.{plan}
+use Rattle.maps.specs.Number.{Bytes}
 use Rattle.maps.specs.Read.{Parsed, sheet, refused, parse}
+use Rattle.maps.specs.Reading.{ReadsAs}
 use Rattle.maps.specs.WellFormed.{WellFormed}
 use Rattle.maps.specs.Outcome.{Outcome, accepted, refusal, within, timed, cutless, covered, outcome, outcomeNumber, outcomePlace, bufferAfter}
 use Rattle.maps.proofs.Over.{and-true}
@@ -26,12 +27,13 @@ use Rattle.maps.proofs.Enumerate.{clash, complete, sound}
 use Rattle.maps.proofs.Chosen.{chosen-is}
 use Rattle.maps.proofs.UsedNodes.{used-in, used-complete, used-sound}
 use Rattle.maps.proofs.Fix.{is-least, is-late}
-use Rattle.maps.proofs.Parse.{parse-well}
+use Rattle.maps.proofs.Written.{reads-parse, parse-reads}
+use Rattle.maps.proofs.Refusing.{parse-refuses, refuses-parse, refuses-number}
 use Rattle.maps.proofs.Planned.{ordered, read-least-right, latency-least}
 use Rattle.customer.specs.Demands.{AllCut, LowestCutless, LeastLabels, Ground, unread, uncut, tooLate, tooShort, planned, Covers, Demand-1, Planned, Demand-2, LeastPlan, Demand-3}
-use Rattle.planner.specs.Call.{Answered}
+use Rattle.bytes.specs.Outcome.{Answered}
+use Rattle.customer.proofs.Answers.{untouched, placed, front, back}
 use Rattle.planner.proofs.Drafts.{legal-carries, refused-outcome, sheet-outcome}
-use Rattle.customer.proofs.Grounds.{parse-grounds}
 
 -- the ground of an outcome
 abbrev pub GroundOf : (bytes : List ℕ) → (room : ℕ) → Type 0
@@ -160,15 +162,15 @@ module _ (S : Sheet) (well : WellFormed S) (L : List Label) (ok : Legal S (at L)
 
 -- ---- the outcome of a sheet in which each logic node has a fitting cut
 
-module _ (bytes : List ℕ) (S : Sheet) (e : parse bytes ≡ sheet S) (a : AllCut S) where
+module _ (bytes : List ℕ) (S : Sheet) (e : ReadsAs bytes S) (a : AllCut S) where
   none-lacks : cutless S ≡ []
-  none-lacks = none-cutless S (parse-well bytes S e) a
+  none-lacks = none-cutless S (e .well) a
 
   answer : Answer S (leastLabels S)
-  answer = read-least-right bytes S e none-lacks
+  answer = read-least-right bytes S (reads-parse bytes S e) none-lacks
 
   timed-outcome : (room : ℕ) → outcome bytes room ≡ timed S room (leastLabels S)
-  timed-outcome room = sheet-outcome bytes S e room ∙ ap (covered S room) none-lacks
+  timed-outcome room = sheet-outcome bytes S (reads-parse bytes S e) room ∙ ap (covered S room) none-lacks
 
   late-outcome : NoneLegal S → (room : ℕ) → outcome bytes room ≡ refusal 7 0
   late-outcome n room = timed-outcome room ∙ ap (timed S room) (is-late S answer n)
@@ -205,67 +207,59 @@ module _ (bytes : List ℕ) (S : Sheet) (e : parse bytes ≡ sheet S) (a : AllCu
 -- ---- any bytes
 
 module _ (bytes : List ℕ) (room : ℕ) where
-  pub ground-of : GroundOf bytes room
-  ground-of = go (parse bytes) refl
+  pub ground-of : Bytes bytes → GroundOf bytes room
+  ground-of b = go (parse bytes) refl
     where
-      cuts : (S : Sheet) → parse bytes ≡ sheet S → (vs : List ℕ) → cutless S ≡ vs → GroundOf bytes room
-      cuts S e [] q = timed-ground bytes S e (all-cut S (parse-well bytes S e) q) room
-      cuts S e (v ∷ vs) q = rw (sheet-outcome bytes S e room ∙ ap (covered S room) q) (uncut S v e (lowest-cutless S (parse-well bytes S e) v vs q))
+      cuts : (S : Sheet) → ReadsAs bytes S → (vs : List ℕ) → cutless S ≡ vs → GroundOf bytes room
+      cuts S e [] q = timed-ground bytes S e (all-cut S (e .well) q) room
+      cuts S e (v ∷ vs) q =
+          rw (sheet-outcome bytes S (reads-parse bytes S e) room ∙ ap (covered S room) q) (uncut S v e (lowest-cutless S (e .well) v vs q))
 
       go : (r : Parsed) → parse bytes ≡ r → GroundOf bytes room
-      go (sheet S) e = cuts S e (cutless S) refl
-      go (refused k p) e = rw (refused-outcome bytes k p e room) (unread k p e)
+      go (sheet S) e = cuts S (parse-reads bytes S b e) (cutless S) refl
+      go (refused k p) e = rw (refused-outcome bytes k p e room) (unread k p (parse-refuses bytes k p b e))
 
   said : {k p : ℕ} → Ground bytes room k p → (outcomeNumber (outcome bytes room) ≡ k) × (outcomePlace (outcome bytes room) ≡ p)
-  said (unread k p e) = parts (refused-outcome bytes k p e room)
-  said (uncut S v e h) = parts (sheet-outcome bytes S e room ∙ go (cutless S) refl)
+  said (unread k p e) = parts (refused-outcome bytes k p (refuses-parse bytes k p e) room)
+  said (uncut S v e h) = parts (sheet-outcome bytes S (reads-parse bytes S e) room ∙ go (cutless S) refl)
     where
       go : (vs : List ℕ) → cutless S ≡ vs → covered S room vs ≡ refusal 6 v
-      go [] q = let k = all-cut S (parse-well bytes S e) q v (h .node) (h .isLogic) in absurd (h .none (k .0) (k .1))
-      go (w ∷ ws) q = ap (refusal 6) (sym (one-lowest S (parse-well bytes S e) v w h (lowest-cutless S (parse-well bytes S e) w ws q)))
+      go [] q = let k = all-cut S (e .well) q v (h .node) (h .isLogic) in absurd (h .none (k .0) (k .1))
+      go (w ∷ ws) q = ap (refusal 6) (sym (one-lowest S (e .well) v w h (lowest-cutless S (e .well) w ws q)))
   said (tooLate S e a n) = parts (late-outcome bytes S e a n room)
   said (tooShort S L e a h l) = parts (no-room bytes S e a L h room l)
   said (planned S L e a h l) = parts (in-room bytes S e a L h room l)
 
 -- ---- an answer that is the outcome's
 
-module _ (bytes buffer : List ℕ) (number place : ℕ) (after : List ℕ) (is : Answered (outcome bytes (length buffer)) number place buffer after) where
+module _ (bytes buffer : List ℕ) (number place : ℕ) (after : List ℕ) (b : Bytes bytes)
+    (is : Answered (outcome bytes (length buffer)) number place buffer after) where
   pub demand-1 : Demand-1 bytes buffer number place after
   demand-1 =
       record {
-        holds = rw (is .0, is .1) (ground-of bytes (length buffer));
+        holds = rw (is .0, is .1) (ground-of bytes (length buffer) b);
         said = λ k p g. let h = said bytes (length buffer) g in (is .0 ∙ h .0, is .1 ∙ h .1);
-        malformed = parse-grounds bytes;
-        untouched = λ n. is .2 ∙ go (outcome bytes (length buffer)) (λ z. n (is .0 ∙ z));
+        malformed = λ never. rw (is .0) (unreadable never (ground-of bytes (length buffer) b));
+        untouched = untouched (outcome bytes (length buffer)) number place buffer after is;
       }
     where
-      go : (o : Outcome) → (outcomeNumber o ≡ 0 → ⊥) → bufferAfter o buffer ≡ buffer
-      go (accepted p) n = absurd (n refl)
-      go (refusal k p) n = refl
-
-  -- an accepted plan stands at the front of the buffer
-  module _ (p : List ℕ) (e : outcome bytes (length buffer) ≡ accepted p) where
-    counted : place ≡ length p
-    counted = is .1 ∙ ap outcomePlace e
-
-    stored : after ≡ p ++ drop (length p) buffer
-    stored = is .2 ∙ ap (λ (o : Outcome). bufferAfter o buffer) e
-
-    front : take place after ≡ p
-    front = ap (take place) stored ∙ take-at p (drop (length p) buffer) place (sym counted)
-
-    back : drop place after ≡ drop place buffer
-    back = ap (drop place) stored ∙ drop-at p (drop (length p) buffer) place (sym counted) ∙ ap (λ (n : ℕ). drop n buffer) (sym counted)
+      unreadable : {k p : ℕ} → ((S : Sheet) → ReadsAs bytes S → ⊥) → Ground bytes (length buffer) k p → (1 ≤ k) × (k ≤ 5)
+      unreadable never (unread k p f) = refuses-number f
+      unreadable never (uncut S v f h) = absurd (never S f)
+      unreadable never (tooLate S f a n) = absurd (never S f)
+      unreadable never (tooShort S L f a h l) = absurd (never S f)
+      unreadable never (planned S L f a h l) = absurd (never S f)
 
   pub demand-2 : Demand-2 bytes buffer number place after
-  demand-2 z = go (ground-of bytes (length buffer)) (sym (is .0) ∙ z)
+  demand-2 z = go (ground-of bytes (length buffer) b) (sym (is .0) ∙ z)
     where
       go : {k p : ℕ} → Ground bytes (length buffer) k p → k ≡ 0 → Planned bytes buffer number place after
-      go (unread k p f) q = absurd (omega (arith, parse-grounds bytes k p f .0))
+      go (unread k p f) q = absurd (omega (arith, refuses-number f .0))
       go (uncut S v f h) q = absurd (omega arith)
       go (tooLate S f a n) q = absurd (omega arith)
       go (tooShort S L f a h l) q = absurd (omega arith)
       go (planned S L f a h l) q =
+          let o = outcome bytes (length buffer) in
           let e = in-room bytes S f a L h (length buffer) l in
           record {
             held = S;
@@ -273,11 +267,11 @@ module _ (bytes buffer : List ℕ) (number place : ℕ) (after : List ℕ) (is :
             labels = L;
             sized = h .sized;
             legal = h .isLeast .legal;
-            covers = covers S (parse-well bytes S f) L (h .isLeast .legal);
-            counted = counted (plan S L) e;
-            fits = omega (arith, counted (plan S L) e);
-            written = front (plan S L) e;
-            kept = back (plan S L) e;
+            covers = covers S (f .well) L (h .isLeast .legal);
+            counted = placed o number place buffer after is (plan S L) e;
+            fits = omega (arith, placed o number place buffer after is (plan S L) e);
+            written = front o number place buffer after is (plan S L) e;
+            kept = back o number place buffer after is (plan S L) e;
           }
 
   pub demand-3 : Demand-3 bytes buffer number place after
@@ -295,7 +289,7 @@ module _ (bytes buffer : List ℕ) (number place : ℕ) (after : List ℕ) (is :
           → ((number ≡ 0) ⊎ (number ≡ 8)) × (place ≡ length (plan S L)) × (number ≡ 0 → take place after ≡ plan S L)
       fits-or L h true q =
           let o = in-room bytes S e a L h room (leb-true (length (plan S L)) room q) in
-          (inl (is .0 ∙ ap outcomeNumber o), is .1 ∙ ap outcomePlace o, λ z. front (plan S L) o)
+          (inl (is .0 ∙ ap outcomeNumber o), is .1 ∙ ap outcomePlace o, λ z. front (outcome bytes room) number place buffer after is (plan S L) o)
       fits-or L h false q =
           let o = no-room bytes S e a L h room (leb-false (length (plan S L)) room q) in
           (inr (is .0 ∙ ap outcomeNumber o), is .1 ∙ ap outcomePlace o, λ z. absurd (omega (arith, is .0, ap outcomeNumber o)))
@@ -316,7 +310,7 @@ module _ (bytes buffer : List ℕ) (number place : ℕ) (after : List ℕ) (is :
             labels = h .0;
             least = h .1;
             latency = latency-least S (S .horizon) (at (h .0)) (h .1 .isLeast);
-            covers = covers S (parse-well bytes S e) (h .0) (h .1 .isLeast .legal);
+            covers = covers S (e .well) (h .0) (h .1 .isLeast .legal);
             answered = f .0;
             counted = f .1;
             written = f .2;

@@ -1,4 +1,5 @@
-pub mod Grounds
+pub mod Answers
 pub mod Demands
 pub mod Bounds
 pub mod Reading
+pub mod Stores

@@ -1,25 +1,29 @@
 -- What a call that reads promises, of every answer and tables that are those after reading.
 use Prim.Native.Nat.{ℕ}
-use mathlib.Core.Path.{_≡_}
+use mathlib.Core.Path.{_≡_, refl}
 use mathlib.Core.List.{List}
-use Rattle.maps.specs.Read.{parse}
-use Rattle.maps.proofs.Parse.{parse-well}
+use mathlib.Core.Logic.{_⊎_, inl, inr}
+use Rattle.maps.specs.Number.{Bytes}
+use Rattle.maps.specs.Sheet.{Sheet}
+use Rattle.maps.specs.Read.{Parsed, sheet, refused, parse}
+use Rattle.maps.specs.Reading.{ReadsAs, Refuses}
+use Rattle.maps.proofs.Written.{reads-parse, parse-reads}
+use Rattle.maps.proofs.Refusing.{parse-refuses, refuses-parse, refuses-number}
 use Rattle.sheet.specs.Answer.{readAfter, answerNumber, answerPlace}
 use Rattle.rows.proofs.Tables.{tabled, listed}
 use Rattle.customer.specs.Reading.{Reads}
-use Rattle.customer.proofs.Grounds.{parse-grounds}
 
-pub reads : (bytes graph differences : List ℕ) (number place : ℕ) (graph′ differences′ : List ℕ)
+pub reads : (bytes graph differences : List ℕ) (number place : ℕ) (graph′ differences′ : List ℕ) → Bytes bytes
     → (number ≡ answerNumber (readAfter (parse bytes) graph differences .answer))
     × (place ≡ answerPlace (readAfter (parse bytes) graph differences .answer))
     × (graph′ ≡ readAfter (parse bytes) graph differences .graph)
     × (differences′ ≡ readAfter (parse bytes) graph differences .differences)
     → Reads bytes graph differences number place graph′ differences′
-reads bytes graph differences number place graph′ differences′ is =
+reads bytes graph differences number place graph′ differences′ b is =
     record {
       stored = λ S e.
-          let r = rw e at is in
-          let w = parse-well bytes S e in
+          let r = rw (reads-parse bytes S e) at is in
+          let w = e .well in
           record {
             number-is = r .0;
             place-is = r .1;
@@ -29,12 +33,17 @@ reads bytes graph differences number place graph′ differences′ is =
             differences-is = r .3;
           };
       rejected = λ k p e.
-          let r = rw e at is in
+          let r = rw (refuses-parse bytes k p e) at is in
           record {
-            ground = parse-grounds bytes k p e;
+            ground = refuses-number e;
             number-is = r .0;
             place-is = r .1;
             graph-kept = r .2;
             differences-kept = r .3;
           };
+      either = go (parse bytes) refl;
     }
+  where
+    go : (r : Parsed) → parse bytes ≡ r → ((S : Sheet) × ReadsAs bytes S) ⊎ ((k : ℕ) × (p : ℕ) × Refuses bytes k p)
+    go (sheet S) e = inl (S, parse-reads bytes S b e)
+    go (refused k p) e = inr (k, p, parse-refuses bytes k p b e)

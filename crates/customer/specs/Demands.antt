@@ -14,7 +14,7 @@ use Rattle.maps.specs.Legal.{Legal, NoneLegal, Least, latencyOfAll}
 use Rattle.maps.specs.Least.{at}
 use Rattle.maps.specs.Cover.{Chosen, Used, used}
 use Rattle.maps.specs.Plan.{leavesOf, plan}
-use Rattle.maps.specs.Read.{sheet, refused, parse}
+use Rattle.maps.specs.Reading.{ReadsAs, Refuses}
 
 -- each logic node has a fitting cut
 abbrev pub AllCut : Sheet → Type 0
@@ -35,16 +35,16 @@ pub record LeastLabels (S : Sheet) (L : List Label) : Type 0 where
 -- "the number and place of the papers": what holds of the sheet, and of a buffer of `room` bytes, where they are answered
 pub data Ground (bytes : List ℕ) (room : ℕ) : (number place : ℕ) → Type 0 where
   -- "Every malformed sheet": 1 to 5
-  unread : (k p : ℕ) → parse bytes ≡ refused k p → Ground bytes room k p
+  unread : (k p : ℕ) → Refuses bytes k p → Ground bytes room k p
   -- "every logic node without a fitting cut"
-  uncut : (S : Sheet) (v : ℕ) → parse bytes ≡ sheet S → LowestCutless S v → Ground bytes room 6 v
+  uncut : (S : Sheet) (v : ℕ) → ReadsAs bytes S → LowestCutless S v → Ground bytes room 6 v
   -- "every sheet without legal labels"
-  tooLate : (S : Sheet) → parse bytes ≡ sheet S → AllCut S → NoneLegal S → Ground bytes room 7 0
+  tooLate : (S : Sheet) → ReadsAs bytes S → AllCut S → NoneLegal S → Ground bytes room 7 0
   -- "every short buffer"
-  tooShort : (S : Sheet) (L : List Label) → parse bytes ≡ sheet S → AllCut S → LeastLabels S L → room < length (plan S L)
+  tooShort : (S : Sheet) (L : List Label) → ReadsAs bytes S → AllCut S → LeastLabels S L → room < length (plan S L)
       → Ground bytes room 8 (length (plan S L))
   -- "Every other sheet is planned"
-  planned : (S : Sheet) (L : List Label) → parse bytes ≡ sheet S → AllCut S → LeastLabels S L → length (plan S L) ≤ room
+  planned : (S : Sheet) (L : List Label) → ReadsAs bytes S → AllCut S → LeastLabels S L → length (plan S L) ≤ room
       → Ground bytes room 0 (length (plan S L))
 
 -- the marks and leaves of the plan of labels L: a node is marked exactly if it is used, a used logic node has its chosen cut, and any other
@@ -58,19 +58,19 @@ pub record Covers (S : Sheet) (L : List Label) : Type 0 where
 module _ (bytes buffer : List ℕ) (number place : ℕ) (after : List ℕ) where
   -- "1. Every malformed sheet, every logic node without a fitting cut, every sheet without legal labels and every short buffer is refused with
   -- the number and place of the papers, and no lent byte changes. Every other sheet is planned; every call ends."
-  -- What is answered holds, whatever holds is answered, a malformed sheet has a number from 1 to 5, and any number but 0 leaves the buffer as it
+  -- What is answered holds, whatever holds is answered, bytes that read as no sheet get a number from 1 to 5, and any number but 0 leaves the buffer as it
   -- was.
   pub record Demand-1 : Type 0 where
     pub holds : Ground bytes (length buffer) number place
     pub said : (k p : ℕ) → Ground bytes (length buffer) k p → (number ≡ k) × (place ≡ p)
-    pub malformed : (k p : ℕ) → parse bytes ≡ refused k p → (1 ≤ k) × (k ≤ 5)
+    pub malformed : ((S : Sheet) → ReadsAs bytes S → ⊥) → (1 ≤ number) × (number ≤ 5)
     pub untouched : (number ≡ 0 → ⊥) → after ≡ buffer
 
   -- the first `place` bytes of the buffer are the plan of labels that are legal within H, with their latency, the used nodes and the chosen cuts;
   -- the other bytes are as they were
   pub record Planned : Type 0 where
     pub held : Sheet
-    pub reads : parse bytes ≡ sheet held
+    pub reads : ReadsAs bytes held
     pub labels : List Label
     pub sized : length labels ≡ size held
     pub legal : Legal held (at labels) (held .horizon)
@@ -106,4 +106,4 @@ module _ (bytes buffer : List ℕ) (number place : ℕ) (after : List ℕ) where
   -- "3. A sheet that reads and whose logic nodes all have a fitting cut (all such cuts counting, however many) is refused for time exactly when no
   -- legal labelling lies within its horizon. Otherwise .."
   abbrev pub Demand-3 : Type 0
-  Demand-3 = (S : Sheet) → parse bytes ≡ sheet S → AllCut S → InTime S
+  Demand-3 = (S : Sheet) → ReadsAs bytes S → AllCut S → InTime S

@@ -1,3 +1,4 @@
 pub mod Demands
 pub mod Bounds
 pub mod Reading
+pub mod Stores

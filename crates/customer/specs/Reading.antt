@@ -3,8 +3,9 @@
 use Prim.Native.Nat.{ℕ, _≤_}
 use mathlib.Core.Path.{_≡_}
 use mathlib.Core.List.{List}
+use mathlib.Core.Logic.{_⊎_}
 use Rattle.maps.specs.Sheet.{Sheet}
-use Rattle.maps.specs.Read.{sheet, refused, parse}
+use Rattle.maps.specs.Reading.{ReadsAs, Refuses}
 use Rattle.rows.specs.Table.{Tabled, Listed, graphOf, differencesOf}
 
 module _ (bytes graph differences : List ℕ) (number place : ℕ) (graph′ differences′ : List ℕ) where
@@ -26,5 +27,6 @@ module _ (bytes graph differences : List ℕ) (number place : ℕ) (graph′ dif
     pub differences-kept : differences′ ≡ differences
 
   pub record Reads : Type 0 where
-    pub stored : (S : Sheet) → parse bytes ≡ sheet S → Stored S
-    pub rejected : (k p : ℕ) → parse bytes ≡ refused k p → Rejected k p
+    pub stored : (S : Sheet) → ReadsAs bytes S → Stored S
+    pub rejected : (k p : ℕ) → Refuses bytes k p → Rejected k p
+    pub either : ((S : Sheet) × ReadsAs bytes S) ⊎ ((k : ℕ) × (p : ℕ) × Refuses bytes k p)

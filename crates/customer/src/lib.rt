@@ -2,8 +2,10 @@
 // whose own contract no longer gives a promise fails here.
 mod planning;
 mod probing;
+mod storing;
 
 pub use planning::plan_sheet;
 pub use probing::chosen_cut;
 pub use probing::has_cut;
 pub use probing::read_tables;
+pub use storing::store_sheet;

@@ -2,7 +2,7 @@
 ghost use lib.ListN.{length};
 ghost use Rattle.customer.specs.Demands.{Demand-1, Demand-2, Demand-3};
 ghost use Rattle.customer.specs.Bounds.{Bounded};
-use planner::Answer;
+use bytes::Answer;
 use planner::maps_plan;
 
 // Plans a sheet into a buffer.

@@ -58,12 +58,6 @@ along-stop (ask r f) (x ∷ xs) e ys a h p =
     let s = along-stop (f (x .value)) xs e ys a (h .1) (p .1) in
     (s .0, (q, s .1))
 
--- numbers that lead somewhere pass
-pub along-pass : {A : Type 0} (f : Form A) (es : List Entry) (a : A) (g : Form A) → Along f es a → Leads f (valuesOf es) g → All Passes es
-along-pass f [] a g h l = tt
-along-pass (done b) (e ∷ es) a g h l = absurd h
-along-pass (ask r f) (e ∷ es) a g h l = (rw (h .0) (l .0), along-pass (f (e .value)) es a g (h .1) (l .1))
-
 along-head : (top : ℕ) (v : NodeRecord) → Along (headForm top) (headNumbers top v) (headMeant v)
 unfolding headForm
 along-head top v = (refl, (refl, (refl, (refl, (refl, refl)))))

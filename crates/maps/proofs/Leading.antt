@@ -8,10 +8,10 @@ use native.Mathlib.Nat.{add-zero}
 use lib.ListN.{length, drop, take, length-append, length-drop, take-append-drop}
 use lib.Seq.{drop-drop, drop-append-seam, length-take-le}
 use Rattle.maps.specs.Lists.{All}
-use Rattle.maps.specs.Number.{Got, got, refusal, andThen, number, width, encoded}
+use Rattle.maps.specs.Number.{Bytes, Got, got, refusal, andThen, number, width, encoded}
 use Rattle.maps.specs.Form.{Rule, ground, passes, Form, done, ask, read, Leads}
 use Rattle.maps.specs.Write.{spelled}
-use Rattle.maps.proofs.Spelling.{Bytes, read-at, written-read, number-next, number-bound}
+use Rattle.maps.proofs.Spelling.{read-at, written-read, number-next, number-bound}
 
 -- the bytes after what stands at `at`
 pub after-here : (s : List ℕ) (at : ℕ) (xs rest : List ℕ) → drop at s ≡ xs ++ rest → drop (at + length xs) s ≡ rest

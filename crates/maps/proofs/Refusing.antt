@@ -1,5 +1,5 @@
 -- The reader refuses by ground k at p exactly if the bytes are so: grounds 1 to 5.
-use Prim.Native.Nat.{ℕ, zero, suc, _+_, _-_, _≤_, _<_}
+use Prim.Native.Nat.{ℕ, zero, suc, _+_, _-_, _^_, _≤_, _<_}
 use mathlib.Core.Path.{_≡_, refl, subst, ap, _∙_}
 use mathlib.Core.Bool.{Bool, true, false, cond}
 use mathlib.Core.List.{List, [], _∷_, _++_}
@@ -9,12 +9,14 @@ use lib.Dec.{ltb, eqb}
 use lib.ListN.{length, drop, length-drop, length-append}
 use borrow.Author.Tests.{ltb-true, ltb-false, lt-ltb, le-ltb, eqb-true}
 use Rattle.maps.specs.Sheet.{Sheet}
-use Rattle.maps.specs.Number.{Got, got, refusal, above, groups, numberUpTo, number, width, encoded}
-use Rattle.maps.specs.Form.{Rule, ground, Form, done, ask, read, Leads}
+use Rattle.maps.specs.Number.{Bytes, Got, got, refusal, above, groups, numberUpTo, number, width, encoded}
+use Rattle.maps.specs.Form.{among, under, Rule, ground, Form, done, ask, read, Leads}
 use Rattle.maps.specs.Read.{sheetForm, sheet, refused, whole, parse}
-use Rattle.maps.specs.Write.{spelled}
-use Rattle.maps.specs.Refuses.{Unfinished, Misplaced, Misspelt, Refuses, ended, spelling, value, trailing}
-use Rattle.maps.proofs.Spelling.{Bytes, at-cons}
+use Rattle.maps.specs.Records.{Records, sheetMeant}
+use Rattle.maps.specs.Write.{First, numbers, valuesOf, spelled}
+use Rattle.maps.specs.Reading.{Unfinished, Misplaced, Misspelt, Refuses, ended, misspelt, value, trailing}
+use Rattle.maps.proofs.Spelling.{at-cons}
+use Rattle.maps.proofs.Along.{Along, along-sheet, along-stop}
 use Rattle.maps.proofs.Leading.{Ends, ends}
 use Rattle.maps.proofs.Leading as L
 use Rattle.maps.proofs.Written.{reads-on, reads-fails}
@@ -110,12 +112,12 @@ module _ (bytes : List ℕ) (ns : List ℕ) (r : Rule) (g : ℕ → Form Sheet) 
       let a : _≡_ {A = ℕ} 2 k = cc in
       let b : 0 + length (spelled ns) ≡ p = cc in
       let c : length (spelled ns) ≡ p = omega arith in
-      subst (Refuses bytes k) c (subst (λ j. Refuses bytes j (length (spelled ns))) a (spelling ns r g rest l d h))
+      subst (Refuses bytes k) c (subst (λ j. Refuses bytes j (length (spelled ns))) a (misspelt ns r g rest l d h))
 
 -- how reading ends says which ground holds
-pub refuses-so : (bytes : List ℕ) (k p : ℕ) → Bytes bytes → parse bytes ≡ refused k p → Refuses bytes k p
+pub parse-refuses : (bytes : List ℕ) (k p : ℕ) → Bytes bytes → parse bytes ≡ refused k p → Refuses bytes k p
 unfolding parse
-refuses-so bytes k p small e = go (read sheetForm bytes 0) (ends sheetForm bytes small 0) e
+parse-refuses bytes k p small e = go (read sheetForm bytes 0) (ends sheetForm bytes small 0) e
   where
     more : (R : Sheet) (next : ℕ) (ns : List ℕ) → Leads sheetForm ns (done R) → next ≡ 0 + length (spelled ns) → next < length bytes → (rest : List ℕ)
         → drop next bytes ≡ rest → bytes ≡ spelled ns ++ rest → refused 5 next ≡ refused k p → Refuses bytes k p
@@ -147,22 +149,43 @@ asks-refused : (r : Rule) (g : ℕ → Form Sheet) (s : List ℕ) (at k p : ℕ)
 asks-refused r g s at k p e = rw e
 
 -- the numbers before are read, and then the reader refuses what comes
-pub so-refuses : (bytes : List ℕ) (k p : ℕ) → Refuses bytes k p → parse bytes ≡ refused k p
+pub refuses-parse : (bytes : List ℕ) (k p : ℕ) → Refuses bytes k p → parse bytes ≡ refused k p
 unfolding parse
-so-refuses bytes _ _ (ended ns r g rest l d h) = rw d
+refuses-parse bytes _ _ (ended ns r g rest l d h) = rw d
     (let s = spelled ns ++ rest in
     let t = reads-on ns (ask r g) rest l in
     rw (t .0, asks-refused r g s (length (spelled ns)) 1 (length s) (number-short s (width - 1) (length (spelled ns)) rest (t .1) h)))
-so-refuses bytes _ _ (spelling ns r g rest l d h) = rw d
+refuses-parse bytes _ _ (misspelt ns r g rest l d h) = rw d
     (let s = spelled ns ++ rest in
     let t = reads-on ns (ask r g) rest l in
     let a = length (spelled ns) in
     rw (t .0, asks-refused r g s a 2 a (number-broken s (width - 1) a rest (t .1) h)))
-so-refuses bytes _ _ (value ns r g x rest l d w f) = rw d
+refuses-parse bytes _ _ (value ns r g x rest l d w f) = rw d
     (let s = spelled ns ++ (encoded x ++ rest) in
     let t = reads-on ns (ask r g) (encoded x ++ rest) l in
     rw (t .0, reads-fails r g s (length (spelled ns)) x rest (t .1) w f))
-so-refuses bytes _ _ (trailing ns S b rest l d) = rw d
+refuses-parse bytes _ _ (trailing ns S b rest l d) = rw d
     (let s = spelled ns ++ (b ∷ rest) in
     let t = reads-on ns (done S) (b ∷ rest) l in
     rw (t .0, lt-ltb (length (spelled ns)) (length s) (omega (arith, length-append (spelled ns) (b ∷ rest)))))
+
+-- these are grounds 1 to 5
+pub refuses-number : {bytes : List ℕ} {k p : ℕ} → Refuses bytes k p → (1 ≤ k) × (k ≤ 5)
+refuses-number (ended ns r g rest l d h) = (omega arith, omega arith)
+refuses-number (misspelt ns r g rest l d h) = (omega arith, omega arith)
+refuses-number (value ns r g x rest l d w f) = go r
+  where
+    go : (r : Rule) → (1 ≤ ground r) × (ground r ≤ 5)
+    go (among q) = (omega arith, omega arith)
+    go (under own) = (omega arith, omega arith)
+refuses-number (trailing ns S b rest l d) = (omega arith, omega arith)
+
+-- where the writer refuses number i, the reader refuses the sheet that has the numbers before it and then that number, at that number's byte
+pub first-refuses : (R : Records) (k i : ℕ) (f : First (numbers R) k i) → f .faulty .value < 128 ^ width → (rest : List ℕ)
+    → Refuses (spelled (valuesOf (f .before)) ++ (encoded (f .faulty .value) ++ rest)) k (length (spelled (valuesOf (f .before))))
+first-refuses R k i f l rest =
+    let ns = valuesOf (f .before) in
+    let x = f .faulty .value in
+    let a : Along sheetForm (f .before ++ (f .faulty ∷ f .after)) (sheetMeant R) = rw (f .listed) at (along-sheet R) in
+    let s = along-stop sheetForm (f .before) (f .faulty) (f .after) (sheetMeant R) a (f .good) in
+    subst (λ n. Refuses (spelled ns ++ (encoded x ++ rest)) n (length (spelled ns))) (f .number) (value ns (f .faulty .rule) (s .0) x rest (s .1) refl l (f .fails))

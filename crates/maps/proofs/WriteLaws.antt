@@ -5,20 +5,20 @@ use mathlib.Core.Logic.{_⊎_, inl, inr}
 use native.Mathlib.Omega.{arith}
 use lib.ListN.{getD}
 use Rattle.maps.specs.Lists.{All}
-use Rattle.maps.specs.Records.{Records}
+use Rattle.maps.specs.Number.{Bytes}
+use Rattle.maps.specs.Records.{Records, sheetMeant}
 use Rattle.maps.specs.Write.{numbers, Passes, First, Verdict, good, fault, verdict}
-use Rattle.maps.specs.WriteLaws.{AllBytes, WriterLaws, ReaderLaws}
-use Rattle.maps.proofs.Spelling.{Bytes}
+use Rattle.maps.specs.WriteLaws.{WriterLaws, ReaderLaws}
 use Rattle.maps.proofs.RecordLaws.{records-again}
 use Rattle.maps.proofs.Verdicts.{Judged, all, one, judge}
-use Rattle.maps.proofs.Written.{writing-passes, passes-written, passes-short, first-refused, passes-read, refused-read, meant-spelling, reproduced, reads-spelling, spelling-read}
-use Rattle.maps.proofs.Refusing.{refuses-so, so-refuses}
+use Rattle.maps.proofs.Written.{writing-passes, passes-written, passes-short, first-refused, passes-read, meant-spelling, reproduced, reads-parse, parse-reads}
+use Rattle.maps.proofs.Refusing.{parse-refuses, refuses-parse, first-refuses}
 use Rattle.maps.proofs.WrittenSize.{written-are-bytes}
 
-bytes-all : (s : List ℕ) → AllBytes s → Bytes s
+bytes-all : (s : List ℕ) → All (λ b. b < 256) s → Bytes s
 bytes-all s h = record { small = go s h }
   where
-    go : (s : List ℕ) → AllBytes s → (i : ℕ) → getD s i 0 < 256
+    go : (s : List ℕ) → All (λ b. b < 256) s → (i : ℕ) → getD s i 0 < 256
     go [] h i = omega arith
     go (b ∷ s) h zero = h .0
     go (b ∷ s) h (suc i) = go s (h .1) i
@@ -29,9 +29,10 @@ writer-laws R room =
     record {
       again = λ bytes e.
           let w = writing-passes R room e in
-          (rw (w .1) (passes-read R (w .0)), records-again R (w .0), written-are-bytes R room bytes e);
+          let b = bytes-all bytes (written-are-bytes R room bytes e) in
+          (parse-reads bytes (sheetMeant R) b (rw (w .1) (passes-read R (w .0))), records-again R (w .0), b);
       first = first-refused R room;
-      refusedToo = refused-read R;
+      reader = first-refuses R;
       tooShort = λ p l. rw (meant-spelling R p) (passes-short R room p (rw (meant-spelling R p) at l));
       otherwise = λ p l. rw (meant-spelling R p) (passes-written R room p (rw (meant-spelling R p) at l));
       cases = one-of (verdict 0 (numbers R)) (judge 0 (numbers R));
@@ -42,11 +43,10 @@ writer-laws R room =
     one-of (fault _ _) (one {k = k} {j = j} f) = inl (k, j, f)
 
 -- reading goes through the form to its end or to the first number that fails, and a number has one spelling
-pub reader-laws : (bytes : List ℕ) → AllBytes bytes → ReaderLaws bytes
-reader-laws bytes h =
-    let b = bytes-all bytes h in
+pub reader-laws : (bytes : List ℕ) → Bytes bytes → ReaderLaws bytes
+reader-laws bytes b =
     record {
-      reproduced = λ S room e l. reproduced bytes S b e room l;
-      exactly = λ S. (spelling-read bytes S b, λ w. rw (w .1) (reads-spelling S (w .0)));
-      grounds = λ k p. (refuses-so bytes k p b, so-refuses bytes k p);
+      reproduced = λ S room r l. reproduced bytes S r room l;
+      exactly = λ S. (parse-reads bytes S b, reads-parse bytes S);
+      grounds = λ k p. (parse-refuses bytes k p b, refuses-parse bytes k p);
     }

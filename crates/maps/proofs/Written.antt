@@ -10,19 +10,19 @@ use lib.ListN.{length, drop, drop-of-length-le}
 use borrow.Author.Tests.{ltb-false, le-ltb, le-leb, lt-leb}
 use Rattle.maps.specs.Lists.{All}
 use Rattle.maps.specs.Sheet.{Sheet}
-use Rattle.maps.specs.Number.{Got, got, refusal, number, width, encoded}
+use Rattle.maps.specs.Number.{Bytes, Got, got, refusal, number, width, encoded}
 use Rattle.maps.specs.Form.{Rule, ground, passes, Form, done, ask, read, Leads}
 use Rattle.maps.specs.Read.{sheetForm, sheet, refused, whole, parse}
-use Rattle.maps.specs.WellFormed.{WellFormed}
 use Rattle.maps.specs.Outcome.{accepted, within}
 use Rattle.maps.specs.Outcome as O
 use Rattle.maps.specs.Records.{Records, sheetMeant, recordsOf}
+use Rattle.maps.specs.Reading.{ReadsAs}
 use Rattle.maps.specs.Write.{numbers, valuesOf, spelled, spelling, Passes, First, Verdict, good, fault, verdict, answered, writing}
-use Rattle.maps.proofs.Spelling.{Bytes, read-at}
+use Rattle.maps.proofs.Spelling.{read-at}
 use Rattle.maps.proofs.Parse.{parse-well}
 use Rattle.maps.proofs.Leading.{leads-read, Ends, ends}
 use Rattle.maps.proofs.Leading as L
-use Rattle.maps.proofs.Along.{Along, along-sheet, along-end, along-stop, along-pass}
+use Rattle.maps.proofs.Along.{along-sheet, along-end}
 use Rattle.maps.proofs.Shown.{shows-sheet}
 use Rattle.maps.proofs.Spellable.{leads-small}
 use Rattle.maps.proofs.RecordLaws.{records-again, sheet-again, well-passes}
@@ -105,44 +105,23 @@ parse-leads bytes S b e = go (read sheetForm bytes 0) (ends sheetForm bytes b 0)
     go (refusal k p) (L.stop ns r g rest l d u) q = never k p q
     go (refusal _ _) (L.wrong ns r g x rest l d u f) q = never (ground r) (0 + length (spelled ns)) q
 
--- the numbers of its records are those in its bytes, and pass since they were read
-read-passes : (bytes : List ℕ) (S : Sheet) → Bytes bytes → parse bytes ≡ sheet S
-    → All Passes (numbers (recordsOf S)) × (bytes ≡ spelled (valuesOf (numbers (recordsOf S))))
-read-passes bytes S b e =
+-- a sheet reads exactly if it is the spelling of a well-formed one
+pub reads-parse : (bytes : List ℕ) (S : Sheet) → ReadsAs bytes S → parse bytes ≡ sheet S
+unfolding spelling
+reads-parse bytes S r = rw (r .spelled) (passes-read (recordsOf S) (well-passes S (r .well)) ∙ ap sheet (sheet-again S (r .well)))
+
+pub parse-reads : (bytes : List ℕ) (S : Sheet) → Bytes bytes → parse bytes ≡ sheet S → ReadsAs bytes S
+unfolding spelling
+parse-reads bytes S b e =
     let t = parse-leads bytes S b e in
-    let v = shows-sheet (t .0) S (t .1) in
-    let R = recordsOf S in
-    (along-pass sheetForm (numbers R) (sheetMeant R) (done S) (along-sheet R) (rw v at (t .1)), t .2 ∙ ap spelled v)
+    record { well = parse-well bytes S e; spelled = t .2 ∙ ap spelled (shows-sheet (t .0) S (t .1)) }
 
 -- ".. and a sheet that reads is reproduced byte for byte"
-pub reproduced : (bytes : List ℕ) (S : Sheet) → Bytes bytes → parse bytes ≡ sheet S → (room : ℕ) → length bytes ≤ room
-    → writing (recordsOf S) room ≡ accepted bytes
-reproduced bytes S b e room l =
-    let t = read-passes bytes S b e in
-    rw (t .1) (passes-written (recordsOf S) room (t .0) (rw (t .1) at l))
-
--- a sheet reads exactly if it is the spelling of a well-formed one
-pub reads-spelling : (S : Sheet) → WellFormed S → parse (spelling S) ≡ sheet S
+pub reproduced : (bytes : List ℕ) (S : Sheet) → ReadsAs bytes S → (room : ℕ) → length bytes ≤ room → writing (recordsOf S) room ≡ accepted bytes
 unfolding spelling
-reads-spelling S w = passes-read (recordsOf S) (well-passes S w) ∙ ap sheet (sheet-again S w)
-
-pub spelling-read : (bytes : List ℕ) (S : Sheet) → Bytes bytes → parse bytes ≡ sheet S → WellFormed S × (bytes ≡ spelling S)
-unfolding spelling
-spelling-read bytes S b e = (parse-well bytes S e, read-passes bytes S b e .1)
+reproduced bytes S r room l = rw (r .spelled) (passes-written (recordsOf S) room (well-passes S (r .well)) (rw (r .spelled) at l))
 
 -- the spelling of the sheet that records mean is that of the records
 pub meant-spelling : (R : Records) → All Passes (numbers R) → spelling (sheetMeant R) ≡ spelled (valuesOf (numbers R))
 unfolding spelling
 meant-spelling R p = ap (λ Q. spelled (valuesOf (numbers Q))) (records-again R p)
-
--- where the writer refuses number i, the reader refuses the sheet that has the numbers before it and then that number, at that number's byte
-pub refused-read : (R : Records) (k i : ℕ) → (f : First (numbers R) k i) → f .faulty .value < 128 ^ width → (after : List ℕ)
-    → parse (spelled (valuesOf (f .before)) ++ (encoded (f .faulty .value) ++ after)) ≡ refused k (length (spelled (valuesOf (f .before))))
-unfolding parse
-refused-read R k i f l after =
-    let ns = valuesOf (f .before) in
-    let x = f .faulty .value in
-    let a : Along sheetForm (f .before ++ (f .faulty ∷ f .after)) (sheetMeant R) = rw (f .listed) at (along-sheet R) in
-    let s = along-stop sheetForm (f .before) (f .faulty) (f .after) (sheetMeant R) a (f .good) in
-    let r = reads-on ns (ask (f .faulty .rule) (s .0)) (encoded x ++ after) (s .1) in
-    rw (r .0, reads-fails (f .faulty .rule) (s .0) (spelled ns ++ (encoded x ++ after)) (length (spelled ns)) x after (r .1) l (f .fails), f .number)

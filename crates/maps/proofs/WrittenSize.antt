@@ -12,7 +12,6 @@ use Rattle.maps.specs.Read.{sheetForm}
 use Rattle.maps.specs.Outcome.{accepted}
 use Rattle.maps.specs.Records.{NodeRecord, DifferenceRecord, Records, sheetMeant}
 use Rattle.maps.specs.Write.{Entry, entry, headerNumbers, headNumbers, nodeNumbers, differenceNumbers, eachNumbers, numbers, valuesOf, spelled, Passes, writing}
-use Rattle.maps.specs.WriteLaws.{AllBytes}
 use Rattle.maps.proofs.Member.{All-join, All-split}
 use Rattle.maps.proofs.Spelling.{written-bytes, written-length, encoded-small}
 use Rattle.maps.proofs.Parse.{in-range}
@@ -21,12 +20,12 @@ use Rattle.maps.proofs.Spellable.{leads-small}
 use Rattle.maps.proofs.Numbers.{spelled-append, spelled-most}
 use Rattle.maps.proofs.Written.{writing-passes}
 
-small-bytes : (ns : List ℕ) → All (λ n. n < 128 ^ width) ns → AllBytes (spelled ns)
+small-bytes : (ns : List ℕ) → All (λ n. n < 128 ^ width) ns → All (λ b. b < 256) (spelled ns)
 small-bytes [] h = tt
 small-bytes (n ∷ ns) h = All-join (λ b. b < 256) (encoded n) (spelled ns) (written-bytes (width - 1) n (h .0)) (small-bytes ns (h .1))
 
 -- what is written is bytes: its numbers lead through the form, so each has a spelling
-pub written-are-bytes : (R : Records) (room : ℕ) (bytes : List ℕ) → writing R room ≡ accepted bytes → AllBytes bytes
+pub written-are-bytes : (R : Records) (room : ℕ) (bytes : List ℕ) → writing R room ≡ accepted bytes → All (λ b. b < 256) bytes
 written-are-bytes R room bytes e =
     let w = writing-passes R room e in
     let l = along-end sheetForm (numbers R) (sheetMeant R) (along-sheet R) (w .0) in
@@ -125,8 +124,3 @@ numbers-most R p =
       nodes-bytes (R .top) 0 (R .nodes) (t .most) (v .0),
       differences-bytes (length (R .nodes)) (R .differences),
     )
-
-pub written-most : (R : Records) (room : ℕ) (bytes : List ℕ) → writing R room ≡ accepted bytes → length bytes ≤ sheetMost
-written-most R room bytes e =
-    let w = writing-passes R room e in
-    rw (w .1) (numbers-most R (w .0))

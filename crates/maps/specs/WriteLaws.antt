@@ -6,26 +6,22 @@ use mathlib.Core.List.{List, _++_}
 use lib.ListN.{length}
 use Rattle.maps.specs.Lists.{All}
 use Rattle.maps.specs.Sheet.{Sheet}
-use Rattle.maps.specs.Number.{width, encoded}
+use Rattle.maps.specs.Number.{Bytes, width, encoded}
 use Rattle.maps.specs.Read.{sheet, refused, parse}
-use Rattle.maps.specs.WellFormed.{WellFormed}
 use Rattle.maps.specs.Outcome.{accepted, refusal}
 use Rattle.maps.specs.Records.{Records, sheetMeant, recordsOf}
 use Rattle.maps.specs.Write.{Passes, First, numbers, valuesOf, spelled, spelling, writing}
-use Rattle.maps.specs.Refuses.{Refuses}
-
-abbrev pub AllBytes : List ℕ → Type 0
-AllBytes = All (λ b. b < 256)
+use Rattle.maps.specs.Reading.{ReadsAs, Refuses}
 
 -- of any records and a buffer of `room` bytes
 pub record WriterLaws (R : Records) (room : ℕ) : Type 0 where
   -- "Reading the written sheet gives those records again"
-  pub again : (bytes : List ℕ) → writing R room ≡ accepted bytes → (parse bytes ≡ sheet (sheetMeant R)) × (recordsOf (sheetMeant R) ≡ R) × AllBytes bytes
+  pub again : (bytes : List ℕ) → writing R room ≡ accepted bytes → ReadsAs bytes (sheetMeant R) × (recordsOf (sheetMeant R) ≡ R) × Bytes bytes
   -- "the first number that the reader would refuse gets 3 or 4 (place: which number of the sheet, from 0)"
   pub first : (k i : ℕ) → First (numbers R) k i → writing R room ≡ refusal k i
   -- the reader refuses that number, by the same ground, where it has a spelling and stands after the numbers before it
-  pub refusedToo : (k i : ℕ) (f : First (numbers R) k i) → f .faulty .value < 128 ^ width → (after : List ℕ)
-      → parse (spelled (valuesOf (f .before)) ++ (encoded (f .faulty .value) ++ after)) ≡ refused k (length (spelled (valuesOf (f .before))))
+  pub reader : (k i : ℕ) (f : First (numbers R) k i) → f .faulty .value < 128 ^ width → (rest : List ℕ)
+      → Refuses (spelled (valuesOf (f .before)) ++ (encoded (f .faulty .value) ++ rest)) k (length (spelled (valuesOf (f .before))))
   -- "then 8": where the reader would refuse none
   pub tooShort : All Passes (numbers R) → room < length (spelling (sheetMeant R)) → writing R room ≡ refusal 8 (length (spelling (sheetMeant R)))
   -- otherwise the sheet is written
@@ -36,8 +32,8 @@ pub record WriterLaws (R : Records) (room : ℕ) : Type 0 where
 -- of any bytes
 pub record ReaderLaws (bytes : List ℕ) : Type 0 where
   -- "a sheet that reads is reproduced byte for byte"
-  pub reproduced : (S : Sheet) (room : ℕ) → parse bytes ≡ sheet S → length bytes ≤ room → writing (recordsOf S) room ≡ accepted bytes
-  -- it reads exactly if it is the spelling of a well-formed sheet
-  pub exactly : (S : Sheet) → (parse bytes ≡ sheet S) ↔ (WellFormed S × (bytes ≡ spelling S))
-  -- and is refused exactly on one of grounds 1 to 5
+  pub reproduced : (S : Sheet) (room : ℕ) → ReadsAs bytes S → length bytes ≤ room → writing (recordsOf S) room ≡ accepted bytes
+  -- `parse` gives exactly the sheet that the bytes are the spelling of
+  pub exactly : (S : Sheet) → (parse bytes ≡ sheet S) ↔ ReadsAs bytes S
+  -- and refuses exactly by the ground that holds of them
   pub grounds : (k p : ℕ) → (parse bytes ≡ refused k p) ↔ Refuses bytes k p

@@ -1,4 +1,4 @@
--- Document 01, "Grounds for refusing", 1 to 5, as a relation: "1 to 4 at the first number in the sheet that fails (spelling before value), then 5".
+-- What reading is, as relations. `parse` computes them.
 use Prim.Native.Nat.{ℕ, zero, suc, _-_, _^_, _≤_, _<_}
 use mathlib.Core.Path.{_≡_}
 use mathlib.Core.Bool.{false}
@@ -9,7 +9,13 @@ use Rattle.maps.specs.Sheet.{Sheet}
 use Rattle.maps.specs.Number.{width, encoded}
 use Rattle.maps.specs.Form.{Rule, ground, passes, Form, done, ask, Leads}
 use Rattle.maps.specs.Read.{sheetForm}
-use Rattle.maps.specs.Write.{spelled}
+use Rattle.maps.specs.WellFormed.{WellFormed}
+use Rattle.maps.specs.Write.{spelled, spelling}
+
+-- "A sheet reads correctly": the bytes are the one spelling of a well-formed sheet
+pub record ReadsAs (bytes : List ℕ) (S : Sheet) : Type 0 where
+  pub well : WellFormed S
+  pub spelled : bytes ≡ spelling S
 
 -- the sheet ends before a number of at most c bytes is complete or present: each byte that is left has another announced
 abbrev pub Unfinished : (c : ℕ) → (rest : List ℕ) → Type 0
@@ -28,13 +34,14 @@ abbrev pub Misspelt : (g : ℕ) → (rest : List ℕ) → Type 0
 Misspelt g [] = ⊥
 Misspelt g (b ∷ rest) = (128 ≤ b) × Misplaced g rest
 
--- The numbers ns pass, and the form asks r of the next one. Of that number:
+-- "Grounds for refusing", 1 to 5: "1 to 4 at the first number in the sheet that fails (spelling before value), then 5". The numbers ns pass, and the
+-- form asks r of the next one. Of that number:
 pub data Refuses (bytes : List ℕ) : (number place : ℕ) → Type 0 where
   -- 1, "the sheet ends before a number is complete or present; place: the sheet's length"
   ended : (ns : List ℕ) (r : Rule) (g : ℕ → Form Sheet) (rest : List ℕ) → Leads sheetForm ns (ask r g) → bytes ≡ spelled ns ++ rest
       → Unfinished width rest → Refuses bytes 1 (length bytes)
   -- 2, "a second byte is 0 or above 127; place: the number's first byte"
-  spelling : (ns : List ℕ) (r : Rule) (g : ℕ → Form Sheet) (rest : List ℕ) → Leads sheetForm ns (ask r g) → bytes ≡ spelled ns ++ rest
+  misspelt : (ns : List ℕ) (r : Rule) (g : ℕ → Form Sheet) (rest : List ℕ) → Leads sheetForm ns (ask r g) → bytes ≡ spelled ns ++ rest
       → Misspelt (width - 1) rest → Refuses bytes 2 (length (spelled ns))
   -- 3, "a value, u and v included, is outside its range", or 4, "an operand id is not below the node's own"; "same place"
   value : (ns : List ℕ) (r : Rule) (g : ℕ → Form Sheet) (x : ℕ) (rest : List ℕ) → Leads sheetForm ns (ask r g) → bytes ≡ spelled ns ++ (encoded x ++ rest)

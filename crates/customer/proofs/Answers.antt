@@ -1,0 +1,31 @@
+-- What an answer that is an outcome's says of number, place and buffer.
+use Prim.Native.Nat.{ℕ}
+use mathlib.Core.Path.{_≡_, refl, sym, ap, _∙_}
+use mathlib.Core.List.{List, _++_}
+use lib.ListN.{length, take, drop}
+use lib.Seq.{take-at, drop-at}
+use Rattle.maps.specs.Outcome.{Outcome, accepted, refusal, outcomeNumber, outcomePlace, bufferAfter}
+use Rattle.bytes.specs.Outcome.{Answered}
+
+module _ (o : Outcome) (number place : ℕ) (buffer after : List ℕ) (is : Answered o number place buffer after) where
+  -- any number but 0 leaves the buffer
+  pub untouched : (number ≡ 0 → ⊥) → after ≡ buffer
+  untouched n = is .2 ∙ go o (λ z. n (is .0 ∙ z))
+    where
+      go : (o : Outcome) → (outcomeNumber o ≡ 0 → ⊥) → bufferAfter o buffer ≡ buffer
+      go (accepted p) n = absurd (n refl)
+      go (refusal k p) n = refl
+
+  -- accepted bytes stand at the front of the buffer
+  module _ (p : List ℕ) (e : o ≡ accepted p) where
+    pub placed : place ≡ length p
+    placed = is .1 ∙ ap outcomePlace e
+
+    stored : after ≡ p ++ drop (length p) buffer
+    stored = is .2 ∙ ap (λ (o : Outcome). bufferAfter o buffer) e
+
+    pub front : take place after ≡ p
+    front = ap (take place) stored ∙ take-at p (drop (length p) buffer) place (sym placed)
+
+    pub back : drop place after ≡ drop place buffer
+    back = ap (drop place) stored ∙ drop-at p (drop (length p) buffer) place (sym placed) ∙ ap (λ (n : ℕ). drop n buffer) (sym placed)

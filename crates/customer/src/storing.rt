@@ -1,0 +1,23 @@
+// The sheet writer, under document 02's words for it.
+ghost use lib.ListN.{length};
+ghost use Rattle.writer.specs.Rows.{recordsIn};
+ghost use Rattle.customer.specs.Stores.{Stores, StoreBounded};
+use bytes::Answer;
+use writer::maps_write_rows;
+
+// Writes the sheet of records into a buffer.
+pub fn store_sheet(
+    leaves: u32,
+    top: u32,
+    horizon: u32,
+    nodes: &[u32],
+    operands: &[u32],
+    differences: &[u32],
+    buffer: &mut [u8],
+) -> Answer
+    ensures stores { λ r. ⌜ Stores (recordsIn leaves top horizon (now (nodes .entry)) (now (operands .entry)) (now (differences .entry)))
+        (now (buffer .entry)) (r .number) (r .place) (now (buffer .exit)) ⌝ }
+    ensures bounds { λ r. ⌜ StoreBounded (length (now (buffer .entry))) (r .number) (r .place) ⌝ }
+{
+    maps_write_rows(leaves, top, horizon, nodes, operands, differences, buffer)
+}
