@@ -1,25 +1,35 @@
-/* The planning call of the MAPS planner.
+/* The calls of the MAPS planner: planning a sheet, and writing a sheet from records.
  *
- * maps_plan reads one sheet and writes one plan, both as document 01 defines them.
+ * maps_plan reads one sheet and writes one plan; maps_write reads the records of a circuit and writes their sheet. Sheets and plans are as
+ * document 01 defines them.
  *
- * Promised, on every input:
- *  - The answer's number is 0 exactly if the sheet is accepted and the plan fits the buffer. Then the plan stands at the front of the
- *    buffer, place is its length in bytes, and the bytes of the buffer after it keep their values.
- *  - Otherwise the number is one of 1 to 8, place is that ground's place, and no byte of the buffer changes.
- *  - If several grounds hold: 1 to 4 at the first number in the sheet that fails, spelling before value; then 5, 6, 7, 8.
+ * Promised of both, on every input:
+ *  - The answer's number is 0 exactly if what is given is accepted and what is to be written fits the buffer. Then it stands at the front of
+ *    the buffer, place is its length in bytes, and the bytes of the buffer after it keep their values.
+ *  - Otherwise the number is the ground for refusing, place is that ground's place, and no byte of the buffer changes.
+ *  - The sheet or the records are only read. Nothing else of the caller's memory is read or written.
+ *
+ * Promised of maps_plan:
+ *  - It refuses with 1 to 8. If several grounds hold: 1 to 4 at the first number in the sheet that fails, spelling before value; then 5, 6, 7, 8.
  *  - The labels of a plan are the least legal ones, and the cuts are the chosen ones under those labels.
- *  - The sheet is only read. Nothing else of the caller's memory is read or written.
  *
- * Asked of the caller: `sheet` points to sheet_len readable bytes and `plan` to plan_len writable bytes, the two do not overlap, and neither
- * pointer is null, also where its length is 0. A buffer of MAPS_PLAN_MOST bytes is long enough for every plan; maps_plan_length gives the length
- * of one plan.
+ * Promised of maps_write:
+ *  - It refuses with 3, 4 and 8: 3 or 4 at the first number of the sheet that a reader would refuse, and place is which number of the sheet that
+ *    is, from 0; then 8. n, m and operand counts are how many were given, and are judged as the other numbers are.
+ *  - Reading the sheet that was written gives the records again, and the records of a sheet that reads give the bytes of that sheet.
  *
- * The call has no global state and allocates nothing: several threads may call it at the same time. Give a thread that
- * calls it MAPS_STACK bytes of stack.
+ * Asked of the caller: `sheet` of maps_plan and what the records of maps_write point to are readable and the buffer is writable, each in its
+ * whole length; the buffer overlaps none of them; and neither the sheet's nor the buffer's pointer is null, also where its length is 0. A buffer of
+ * MAPS_PLAN_MOST bytes is long enough for every plan and one of MAPS_SHEET_MOST bytes for every sheet; maps_plan_length and maps_write_length give
+ * the length of one plan and of one sheet.
+ *
+ * The calls have no global state and allocate nothing: several threads may call them at the same time. Give a thread that
+ * calls one of them MAPS_STACK bytes of stack.
  */
 #ifndef MAPS_H
 #define MAPS_H
 
+#include <assert.h>
 #include <stddef.h>
 #include <stdint.h>
 
@@ -31,6 +41,10 @@ extern "C" {
  * of 6 leaves). */
 #define MAPS_PLAN_MOST 4354
 
+/* Bytes that no sheet exceeds: 8 for the header, 18 for each of 256 nodes (1 each for kind, mark, d and operand count, 2 for lat, 2 for each of
+ * 6 operands), 6 for each of 1,024 differences. */
+#define MAPS_SHEET_MOST 10760
+
 /* Bytes of stack to give a calling thread. It is a bound: a test (tests/tests/stack.rs) reads the frame of each function from the archive, counts
  * a recursive function as often as it can be active at once, adds up the deepest path of calls and holds this number to be no less. */
 #define MAPS_STACK 524288
@@ -41,17 +55,18 @@ struct maps_answer {
     uint64_t place;  /* the length of what was written, or the ground's place */
 };
 
-/* The numbers, each with its place. */
+/* The numbers, each with its place. For 3 and 4 that is the number's first byte in the sheet that maps_plan reads, and which number it is, from 0, of
+ * the sheet that maps_write is to write. */
 enum maps_number {
     MAPS_ACCEPTED = 0,     /* accepted; place: the length of what was written */
     MAPS_SHEET_ENDS = 1,   /* the sheet ends before a number is complete or present; place: the sheet's length */
     MAPS_SECOND_BYTE = 2,  /* a second byte is 0 or above 127; place: the number's first byte */
-    MAPS_VALUE = 3,        /* a value, u and v included, is outside its range; place: the number's first byte */
-    MAPS_OPERAND = 4,      /* an operand id is not below the node's own; place: the number's first byte */
+    MAPS_VALUE = 3,        /* a value, u and v included, is outside its range; place: that number */
+    MAPS_OPERAND = 4,      /* an operand id is not below the node's own; place: that number */
     MAPS_BYTES_FOLLOW = 5, /* bytes follow the last number; place: the first of them */
     MAPS_NO_CUT = 6,       /* a logic node has no fitting cut; place: the lowest such id */
     MAPS_LATE = 7,         /* no legal labelling within H; place: 0 */
-    MAPS_BUFFER_SHORT = 8  /* the buffer is shorter than what would be written, here the plan; place: that length */
+    MAPS_BUFFER_SHORT = 8  /* the buffer is shorter than what would be written; place: that length */
 };
 
 /* Plans a sheet into a buffer. */
@@ -69,7 +84,75 @@ static inline struct maps_answer maps_plan_length(const uint8_t *sheet, size_t s
     return answer;
 }
 
-/* 1 if the number is 0: the plan is written or, where its length alone was asked, there is one. Otherwise 0. */
+/* The kinds of nodes. */
+enum maps_kind {
+    MAPS_INPUT = 0,
+    MAPS_LOGIC = 1,
+    MAPS_BOX = 2
+};
+
+/* A node. Its operands are those of the array `operands` of the records from the end of the node before it, for node 0 from the first, up to its own
+ * end: the number of operands of all nodes up to and with this one. An end past the array counts as the array's length. An end that is not after
+ * the start gives no operands, and the next node starts there. */
+struct maps_node {
+    uint32_t kind;         /* a number of maps_kind */
+    uint32_t output;       /* 1 if the node is an output, otherwise 0 */
+    uint32_t delay;        /* d, in levels */
+    uint32_t latency;      /* lat, in steps */
+    uint32_t operands_end; /* the index in `operands` behind the last of this node's */
+};
+
+/* A difference: step of `to` >= step of `from` + `weight`. */
+struct maps_difference {
+    uint32_t from;  /* u */
+    uint32_t to;    /* v */
+    int32_t weight; /* w */
+};
+
+/* The records of a sheet. A node's id is its index in `nodes`. A pointer whose count is 0 may be null. */
+struct maps_sheet {
+    uint32_t leaves;  /* K */
+    uint32_t top;     /* T */
+    uint32_t horizon; /* H */
+    const struct maps_node *nodes;
+    size_t node_count; /* n */
+    const uint32_t *operands;
+    size_t operand_count; /* of all nodes */
+    const struct maps_difference *differences;
+    size_t difference_count; /* m */
+};
+
+/* The call that maps_write makes: the records as rows of 32-bit numbers, five for a node and three for a difference, with w as the 32 bits of a
+ * signed number. The lengths count numbers; an incomplete row at the end is ignored. No pointer may be null. */
+struct maps_answer maps_write_rows(uint32_t leaves, uint32_t top, uint32_t horizon, const uint32_t *nodes, size_t nodes_len,
+                                   const uint32_t *operands, size_t operands_len, const uint32_t *differences, size_t differences_len,
+                                   uint8_t *sheet, size_t sheet_len);
+
+static_assert(sizeof(struct maps_node) == 5 * sizeof(uint32_t), "a node is a row of five numbers");
+static_assert(sizeof(struct maps_difference) == 3 * sizeof(uint32_t), "a difference is a row of three numbers");
+
+/* Writes the sheet of records into a buffer. The records are handed over where they stand. */
+static inline struct maps_answer maps_write(const struct maps_sheet *records, uint8_t *sheet, size_t sheet_len) {
+    const uint32_t none = 0;
+    const uint32_t *nodes = records->node_count == 0 ? &none : (const uint32_t *)records->nodes;
+    const uint32_t *operands = records->operand_count == 0 ? &none : records->operands;
+    const uint32_t *differences = records->difference_count == 0 ? &none : (const uint32_t *)records->differences;
+    return maps_write_rows(records->leaves, records->top, records->horizon, nodes, 5 * records->node_count, operands, records->operand_count,
+                           differences, 3 * records->difference_count, sheet, sheet_len);
+}
+
+/* Asks for the length of the sheet of records and writes none: number 0 and, as place, the length in bytes where the records have a sheet, otherwise
+ * the refusal, never 8. */
+static inline struct maps_answer maps_write_length(const struct maps_sheet *records) {
+    uint8_t no_sheet = 0;
+    struct maps_answer answer = maps_write(records, &no_sheet, 0);
+    if (answer.number == MAPS_BUFFER_SHORT) {
+        answer.number = MAPS_ACCEPTED;
+    }
+    return answer;
+}
+
+/* 1 if the number is 0: the plan or sheet is written or, where its length alone was asked, there is one. Otherwise 0. */
 static inline int maps_accepted(struct maps_answer answer) { return answer.number == MAPS_ACCEPTED; }
 
 /* Document 01's words for a number. */
@@ -83,7 +166,7 @@ static inline const char *maps_text(uint64_t number) {
     case MAPS_BYTES_FOLLOW: return "bytes follow the last number";
     case MAPS_NO_CUT: return "a logic node has no fitting cut";
     case MAPS_LATE: return "no legal labelling within H";
-    case MAPS_BUFFER_SHORT: return "the buffer is shorter than what would be written, here the plan";
+    case MAPS_BUFFER_SHORT: return "the buffer is shorter than what would be written";
     default: return "no number of document 01";
     }
 }

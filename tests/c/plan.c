@@ -4,60 +4,10 @@
  *
  *   gcc -std=c11 -Wall -Wextra -Wpedantic -Werror -Wconversion -Wshadow -Iinclude tests/c/plan.c -Ltarget/staticlib -lplanner -o target/plan_c
  */
-#include "maps.h"
-
-#include <stdio.h>
-#include <string.h>
-
-/* The width of the strips of known bytes before and behind the buffer. */
-#define STRIP 16
+#include "cases.h"
 
 /* The greatest buffer that is lent here. */
 #define ROOM 64
-
-static const uint8_t HALL[44] = {
-    0x03, 0x02, 0x04, 0x06, 0x01,
-    0x00, 0x00, 0x00, 0x00, 0x00,
-    0x00, 0x00, 0x00, 0x00, 0x00,
-    0x00, 0x00, 0x00, 0x00, 0x00,
-    0x01, 0x00, 0x01, 0x00, 0x02, 0x00, 0x01,
-    0x01, 0x00, 0x01, 0x00, 0x02, 0x03, 0x02,
-    0x01, 0x01, 0x01, 0x00, 0x02, 0x04, 0x03,
-    0x00, 0x05, 0x02,
-};
-
-static const uint8_t HALL_PLAN[29] = {
-    0x01,
-    0x00, 0x00, 0x01, 0x00,
-    0x00, 0x00, 0x01, 0x00,
-    0x00, 0x00, 0x01, 0x00,
-    0x00, 0x01, 0x01, 0x02, 0x00, 0x01,
-    0x00, 0x01, 0x00, 0x00,
-    0x01, 0x01, 0x01, 0x02, 0x02, 0x03,
-};
-
-static unsigned passed, failed;
-
-/* Counts one case, whose comparisons all hold or not. */
-static void check(int holds, const char *name) {
-    if (holds) {
-        passed++;
-    } else {
-        failed++;
-        printf("FAILED: %s\n", name);
-    }
-}
-
-/* The byte that stands at a place before the call. */
-static uint8_t known(size_t at) { return (uint8_t)(0xa5u ^ (37u * at & 0xffu)); }
-
-static int same(struct maps_answer answer, uint64_t number, uint64_t place) {
-    int holds = answer.number == number && answer.place == place && maps_accepted(answer) == (number == 0);
-    if (!holds) {
-        printf("  %llu %llu (%s)\n", (unsigned long long)answer.number, (unsigned long long)answer.place, maps_text(answer.number));
-    }
-    return holds;
-}
 
 /* Plans `sheet` into `room` bytes between two strips. The number and place are those given; on number 0 the buffer begins with `plan`, where one
  * is given; all other bytes keep their values. */
@@ -172,6 +122,5 @@ int main(void) {
     grounds();
     lengths();
     words();
-    printf("%u passed, %u failed\n", passed, failed);
-    return failed != 0;
+    return counted();
 }

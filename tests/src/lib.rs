@@ -1,5 +1,7 @@
-//! An independent account of document 01 in Rust, written from the document, and made-up sheets to try the library on.
+//! An independent account of documents 01 and 02 in Rust, written from the documents, and made-up sheets to try the library on.
+pub mod buffer;
 pub mod cones;
+pub mod header;
 pub mod labels;
 pub mod library;
 pub mod limits;
@@ -8,3 +10,4 @@ pub mod plan;
 pub mod planner;
 pub mod random;
 pub mod reader;
+pub mod writer;

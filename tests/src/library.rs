@@ -1,18 +1,12 @@
 //! The proved library, called through its C interface.
 use crate::reader::Sheet;
+#[cfg(planner)]
+use crate::writer::Rows;
 
-/// What reading answers: number and place.
+/// What a call answers: number and place.
 #[repr(C)]
 #[derive(Clone, Copy, Debug, PartialEq)]
-pub struct ReadAnswer {
-    pub number: u64,
-    pub place: u64,
-}
-
-/// What planning answers: number and place.
-#[repr(C)]
-#[derive(Clone, Copy, Debug, PartialEq)]
-pub struct PlanAnswer {
+pub struct Answer {
     pub number: u64,
     pub place: u64,
 }
@@ -20,12 +14,25 @@ pub struct PlanAnswer {
 extern "C" {
     fn maps_has_cut(sheet: *const u8, length: usize, allowed: *const [u8; 256], v: u32, k: u32) -> u32;
     fn maps_cut(sheet: *const u8, length: usize, allowed: *const [u8; 256], v: u32, k: u32, list: *mut [u32; 8]) -> u32;
-    fn maps_read(sheet: *const u8, length: usize, graph: *mut [u32; 4096], differences: *mut [u32; 4096]) -> ReadAnswer;
+    fn maps_read(sheet: *const u8, length: usize, graph: *mut [u32; 4096], differences: *mut [u32; 4096]) -> Answer;
 }
 
 #[cfg(planner)]
 extern "C" {
-    fn maps_plan(sheet: *const u8, sheet_len: usize, plan: *mut u8, plan_len: usize) -> PlanAnswer;
+    fn maps_plan(sheet: *const u8, sheet_len: usize, plan: *mut u8, plan_len: usize) -> Answer;
+    fn maps_write_rows(
+        leaves: u32,
+        top: u32,
+        horizon: u32,
+        nodes: *const u32,
+        nodes_len: usize,
+        operands: *const u32,
+        operands_len: usize,
+        differences: *const u32,
+        differences_len: usize,
+        sheet: *mut u8,
+        sheet_len: usize,
+    ) -> Answer;
 }
 
 /// The two tables that a sheet is read into.
@@ -55,7 +62,7 @@ impl Tables {
     }
 }
 
-pub fn read(sheet: &[u8], tables: &mut Tables) -> ReadAnswer {
+pub fn read(sheet: &[u8], tables: &mut Tables) -> Answer {
     unsafe { maps_read(sheet.as_ptr(), sheet.len(), &mut tables.graph, &mut tables.differences) }
 }
 
@@ -86,6 +93,27 @@ pub fn chosen_cut(sheet: &[u8], allowed: &[bool], v: u32, k: u32, mut list: [u32
 
 /// Plans a sheet into a buffer.
 #[cfg(planner)]
-pub fn plan(sheet: &[u8], buffer: &mut [u8]) -> PlanAnswer {
+pub fn plan(sheet: &[u8], buffer: &mut [u8]) -> Answer {
     unsafe { maps_plan(sheet.as_ptr(), sheet.len(), buffer.as_mut_ptr(), buffer.len()) }
+}
+
+/// Writes the sheet of records into a buffer.
+#[cfg(planner)]
+pub fn write(rows: &Rows, buffer: &mut [u8]) -> Answer {
+    let Rows { leaves, top, horizon, nodes, operands, differences } = rows;
+    unsafe {
+        maps_write_rows(
+            *leaves,
+            *top,
+            *horizon,
+            nodes.as_ptr(),
+            nodes.len(),
+            operands.as_ptr(),
+            operands.len(),
+            differences.as_ptr(),
+            differences.len(),
+            buffer.as_mut_ptr(),
+            buffer.len(),
+        )
+    }
 }

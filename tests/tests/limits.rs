@@ -1,18 +1,21 @@
-//! Every limit of document 01's section "The sheet", from both sides, through planning and through reading: a value inside is read, and one outside
-//! is refused at its own first byte. The sheets are whole: what follows a value outside its range is what a reader that takes it would go on to read.
+//! Every limit of document 01's section "The sheet", from both sides, through planning, reading and writing: a value inside is read and written, and
+//! one outside is refused, by planning and reading at its own first byte, by writing as the number of the sheet that it is. The sheets are whole:
+//! what follows a value outside its range is what a reader that takes it would go on to read.
 #![cfg(planner)]
-use maps_tests::library::{plan, read, PlanAnswer, ReadAnswer, Tables};
+use maps_tests::buffer::{after, lent};
+use maps_tests::library::{plan, read, write, Answer, Tables};
 use maps_tests::limits::{fields, Range, CODE, H, K, KIND, M, MARK, N, NUMBER, T};
 use maps_tests::made::{input, numbers, spelled, table};
 use maps_tests::reader::{Difference, Node, Sheet};
+use maps_tests::writer::{self, Records, Rows};
 
 /// Number and place, from planning and from reading alike.
 fn refused(name: &str, bytes: &[u8], number: u64, place: u64) {
     let mut buffer = vec![0xa5; 5000];
-    assert_eq!(plan(bytes, &mut buffer), PlanAnswer { number, place }, "planning: {name}");
+    assert_eq!(plan(bytes, &mut buffer), Answer { number, place }, "planning: {name}");
     assert!(buffer.iter().all(|&byte| byte == 0xa5), "planning wrote: {name}");
     let mut tables = Tables::filled_with(0xdead_beef);
-    assert_eq!(read(bytes, &mut tables), ReadAnswer { number, place }, "reading: {name}");
+    assert_eq!(read(bytes, &mut tables), Answer { number, place }, "reading: {name}");
     assert!(tables == Tables::filled_with(0xdead_beef), "reading wrote: {name}");
 }
 
@@ -21,7 +24,32 @@ fn taken(name: &str, bytes: &[u8]) {
     let answer = plan(bytes, &mut vec![0; 5000]);
     assert!([0, 6, 7].contains(&answer.number), "planning: {name}: {answer:?}");
     let answer = read(bytes, &mut Tables::filled_with(0xdead_beef));
-    assert_eq!(answer, ReadAnswer { number: 0, place: 0 }, "reading: {name}");
+    assert_eq!(answer, Answer { number: 0, place: 0 }, "reading: {name}");
+}
+
+/// The records whose sheet has these numbers, as many of them as counts say while there are some; then 0.
+fn records(numbers: &[u32]) -> Records {
+    let mut rest = numbers.iter().copied();
+    let [leaves, top, horizon, n, m] = std::array::from_fn(|_| rest.next().unwrap());
+    let nodes = (0..n).map(|_| {
+        let [kind, output, delay, latency, count] = std::array::from_fn(|_| rest.next().unwrap_or(0));
+        writer::Node { kind, output, delay, latency, operands: rest.by_ref().take(count as usize).collect() }
+    });
+    let nodes = nodes.collect();
+    let differences = (0..m).map(|_| {
+        let [from, to, code] = std::array::from_fn(|_| rest.next().unwrap_or(0));
+        let half = (code / 2) as i32;
+        Difference { from, to, weight: if code % 2 == 0 { half } else { -half - 1 } }
+    });
+    let differences = differences.collect();
+    Records { leaves, top, horizon, nodes, differences }
+}
+
+/// Writing the sheet with these numbers gives this answer, and these bytes at the front of the buffer.
+fn written(name: &str, numbers: &[u32], number: u64, place: u64, bytes: &[u8]) {
+    let (answer, buffer) = lent(11_000, |buffer| write(&Rows::from(&records(numbers)), buffer));
+    assert_eq!(answer, Answer { number, place }, "writing: {name}");
+    assert!(buffer == after(bytes, 11_000), "bytes written: {name}");
 }
 
 /// Where the number at an index of a sheet has its first byte.
@@ -29,14 +57,18 @@ fn place(numbers: &[u32], index: usize) -> u64 {
     spelled(&numbers[..index]).len() as u64
 }
 
-/// The number at `index` is taken in this sheet.
+/// The number at `index` is taken in this sheet, which is also written.
 fn inside(name: &str, numbers: &[u32], index: usize) {
-    taken(&format!("{name} = {}", numbers[index]), &spelled(numbers));
+    let (name, bytes) = (format!("{name} = {}", numbers[index]), spelled(numbers));
+    taken(&name, &bytes);
+    written(&name, numbers, 0, bytes.len() as u64, &bytes);
 }
 
 /// The number at `index` is refused with `ground` in this sheet.
 fn outside(name: &str, numbers: &[u32], index: usize, ground: u64) {
-    refused(&format!("{name} = {}", numbers[index]), &spelled(numbers), ground, place(numbers, index));
+    let name = format!("{name} = {}", numbers[index]);
+    refused(&name, &spelled(numbers), ground, place(numbers, index));
+    written(&name, numbers, ground, index as u64, &[]);
 }
 
 /// Tries both ends of a range, and one past each, at an index of the sheet that `sheet` makes for a value.

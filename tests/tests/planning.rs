@@ -1,8 +1,9 @@
 //! The planning call against a planner by brute force: number, place and every byte of the buffer, on made-up small sheets, damaged sheets and random
 //! bytes; against the definition of least labels on tiny sheets; and what can be checked without brute force on sheets at every limit.
 #![cfg(planner)]
+use maps_tests::buffer::{after, lent};
 use maps_tests::labels::{fitting_cuts, least, legal, Label};
-use maps_tests::library::{plan, PlanAnswer};
+use maps_tests::library::{plan, Answer};
 use maps_tests::made::{self, chain, damaged, greatest, input, numbers, ring, small, spelled, stairs, table, variant, Size};
 use maps_tests::plan::{refusal_line, Plan};
 use maps_tests::planner::outcome;
@@ -11,33 +12,16 @@ use maps_tests::reader::{Difference, Node, Sheet};
 
 const SEED: u64 = 20260103;
 
-/// The width of the strips of known bytes before and behind the buffer.
-const STRIP: usize = 24;
-
-/// The byte that stands at a place before the call.
-fn known(at: usize) -> u8 {
-    (at as u8).wrapping_mul(37) ^ 0xa5
-}
-
-/// Calls the library on `room` bytes between two strips. Gives the answer and the room's bytes; the strips keep theirs.
-fn planned(bytes: &[u8], room: usize) -> (PlanAnswer, Vec<u8>) {
-    let mut whole: Vec<u8> = (0..room + 2 * STRIP).map(known).collect();
-    let answer = plan(bytes, &mut whole[STRIP..STRIP + room]);
-    let kept = |at: usize| whole[at] == known(at);
-    assert!((0..STRIP).all(kept) && (STRIP + room..room + 2 * STRIP).all(kept), "bytes outside the buffer: {bytes:?} {room}");
-    (answer, whole[STRIP..STRIP + room].to_vec())
-}
-
-/// The bytes of a buffer of `room` bytes after a call that writes `plan` at its front.
-fn after(plan: &[u8], room: usize) -> Vec<u8> {
-    (0..room).map(|i| plan.get(i).copied().unwrap_or(known(STRIP + i))).collect()
+/// Plans into `room` bytes between strips of known bytes. Gives the answer and the room's bytes.
+fn planned(bytes: &[u8], room: usize) -> (Answer, Vec<u8>) {
+    lent(room, |buffer| plan(bytes, buffer))
 }
 
 /// Compares the library with the planner by brute force in one room, and gives number and place.
 fn compare_in(bytes: &[u8], room: usize) -> (u64, u64) {
     let (number, place, plan) = outcome(bytes, room);
     let (answer, buffer) = planned(bytes, room);
-    assert_eq!(answer, PlanAnswer { number, place }, "{bytes:?} in {room}");
+    assert_eq!(answer, Answer { number, place }, "{bytes:?} in {room}");
     assert!(buffer == after(&plan.unwrap_or_default(), room), "buffer of {bytes:?} in {room}: {buffer:?}");
     (number, place)
 }
@@ -200,7 +184,7 @@ fn large(name: &str, sheet: &Sheet) -> u64 {
             assert!(buffer[length..] == after(&[], 5000)[length..], "{name}: bytes after the plan");
             Plan::decoded(sheet.nodes.len(), &buffer[..length]).check(sheet);
             assert_eq!(planned(&bytes, length), (answer, buffer[..length].to_vec()));
-            let short = PlanAnswer { number: 8, place: answer.place };
+            let short = Answer { number: 8, place: answer.place };
             assert_eq!(planned(&bytes, length - 1), (short, after(&[], length - 1)));
             assert_eq!(planned(&bytes, 0), (short, Vec::new()));
         }
@@ -303,7 +287,7 @@ fn the_cases_of_document_01() {
     assert_eq!(spelling, hall(3, 2, 4, &[(0, 5, 1)]));
     assert_eq!(spelling.len(), 44);
     assert_eq!(planned(&spelling, 29), (
-        PlanAnswer { number: 0, place: 29 },
+        Answer { number: 0, place: 29 },
         vec![1, 0, 0, 1, 0, 0, 0, 1, 0, 0, 0, 1, 0, 0, 1, 1, 2, 0, 1, 0, 1, 0, 0, 1, 1, 1, 2, 2, 3],
     ));
     assert_eq!(listing(&spelling), whole);

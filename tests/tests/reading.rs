@@ -1,5 +1,5 @@
 //! The proved reader against the independent one: number, place and both tables, on sheets within the ranges, damaged sheets and random bytes.
-use maps_tests::library::{read, ReadAnswer, Tables};
+use maps_tests::library::{read, Answer, Tables};
 use maps_tests::made::{damaged, numbers, sheet, spelled};
 use maps_tests::random::Random;
 use maps_tests::reader;
@@ -12,11 +12,11 @@ fn compare(bytes: &[u8]) -> u64 {
     let answer = read(bytes, &mut tables);
     match reader::read(bytes) {
         Ok(sheet) => {
-            assert_eq!(answer, ReadAnswer { number: 0, place: 0 }, "{bytes:?}");
+            assert_eq!(answer, Answer { number: 0, place: 0 }, "{bytes:?}");
             assert!(tables == Tables::of(&sheet), "tables of {bytes:?}");
         }
         Err((number, place)) => {
-            assert_eq!(answer, ReadAnswer { number, place }, "{bytes:?}");
+            assert_eq!(answer, Answer { number, place }, "{bytes:?}");
             assert!(tables == Tables::filled_with(0xdead_beef), "a refusal wrote: {bytes:?}");
         }
     }

@@ -1,14 +1,19 @@
-//! MAPS_STACK of the header against a bound on the stack of the planning call. The bound comes from the archive itself: the frame of each function
+//! MAPS_STACK of the header against a bound on the stack of each exported call. The bounds come from the archive itself: the frame of each function
 //! and who calls whom are read from its disassembly, and a recursive function counts as often as it can be active at once.
 #![cfg(planner)]
-use maps_tests::library::plan;
+use maps_tests::header::defined;
+use maps_tests::library::{plan, write};
 use maps_tests::limits::{fields, N};
 use maps_tests::made::{chain, greatest, input, numbers, spelled, table};
 use maps_tests::random::Random;
 use maps_tests::reader::Sheet;
+use maps_tests::writer::{Records, Rows};
 use std::collections::{BTreeMap, BTreeSet};
 use std::path::{Path, PathBuf};
 use std::process::Command;
+
+/// The exported calls.
+const CALLS: [&str; 2] = ["maps_plan", "maps_write_rows"];
 
 /// Ids of nodes, and operands of one.
 const NODES: u64 = N.1 as u64;
@@ -194,13 +199,6 @@ fn archive() -> BTreeMap<String, Function> {
     functions(&String::from_utf8(output.stdout).expect("text"))
 }
 
-/// MAPS_STACK.
-fn promised() -> u64 {
-    let header = std::fs::read_to_string(root().join("include/maps.h")).expect("the header");
-    let value = header.lines().find_map(|line| line.strip_prefix("#define MAPS_STACK ")).expect("MAPS_STACK");
-    value.trim().parse().expect("a number of bytes")
-}
-
 #[test]
 fn the_header_promises_no_less_than_the_bound() {
     let all = archive();
@@ -212,9 +210,19 @@ fn the_header_promises_no_less_than_the_bound() {
     for in_crate in ["cone", "flow"] {
         assert!(all.keys().any(|name| name.contains(in_crate) && reached(&all, name).contains(name.as_str())), "no recursion in {in_crate}");
     }
-    let bound = deepest(&all, "maps_plan");
-    println!("bound {bound}, promised {}", promised());
-    assert!(bound <= promised(), "MAPS_STACK is {}, and the call may take {bound} bytes", promised());
+    let promised = defined("MAPS_STACK");
+    for call in CALLS {
+        let bound = deepest(&all, call);
+        println!("{call}: bound {bound}, promised {promised}");
+        assert!(bound <= promised, "MAPS_STACK is {promised}, and {call} may take {bound} bytes");
+    }
+}
+
+/// Runs some of an exported call on a thread whose stack has its bound, and a little more for what the thread itself needs.
+fn within_the_bound<T: Send + 'static>(call: &str, work: impl FnOnce() -> T + Send + 'static) -> T {
+    let stack = deepest(&archive(), call) as usize + 16_384;
+    println!("{stack} bytes of stack");
+    std::thread::Builder::new().stack_size(stack).spawn(work).expect("a thread").join().expect("work within the bound")
 }
 
 /// Tables that each read the one below and one of `inputs` inputs: with T = 1 all of them must be inside one cone, and a walk goes down all of it.
@@ -225,9 +233,7 @@ fn ladder(inputs: u32) -> Sheet {
 
 #[test]
 fn the_bound_is_enough_for_deep_sheets() {
-    // Besides the call, the thread itself needs some.
-    let stack = deepest(&archive(), "maps_plan") as usize + 16_384;
-    let planning = move || {
+    let planning = || {
         let mut random = Random::new(20260105);
         let mut met = [0; 9];
         let sheets = (1..40).map(ladder).chain((0..20).map(|_| greatest(&mut random))).chain((0..20).map(chain));
@@ -237,7 +243,24 @@ fn the_bound_is_enough_for_deep_sheets() {
         }
         met
     };
-    let met = std::thread::Builder::new().stack_size(stack).spawn(planning).expect("a thread").join().expect("planning within the bound");
-    println!("{stack} bytes of stack; sheets by number: {met:?}");
+    let met = within_the_bound("maps_plan", planning);
+    println!("sheets by number: {met:?}");
     assert!(met[0] > 20);
+}
+
+#[test]
+fn the_bound_is_enough_for_the_greatest_records() {
+    let writing = || {
+        let mut random = Random::new(20260107);
+        let mut met = [0; 9];
+        for _ in 0..20 {
+            let rows = Rows::from(&Records::from(&greatest(&mut random)));
+            let wrong = Rows { differences: vec![256; rows.differences.len()], ..rows.clone() };
+            for (rows, room) in [(&rows, 11_000), (&rows, 0), (&wrong, 11_000)] {
+                met[write(rows, &mut vec![0; room]).number as usize] += 1;
+            }
+        }
+        met
+    };
+    assert_eq!(within_the_bound("maps_write_rows", writing), [20, 0, 0, 20, 0, 0, 0, 0, 20]);
 }

@@ -3,7 +3,7 @@ ghost use lib.ListN.{length};
 ghost use Rattle.writer.specs.Rows.{recordsIn};
 ghost use Rattle.customer.specs.Stores.{Stores, StoreBounded};
 use bytes::Answer;
-use writer::maps_write_rows;
+use planner::maps_write_rows;
 
 // Writes the sheet of records into a buffer.
 pub fn store_sheet(

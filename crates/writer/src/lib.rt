@@ -4,5 +4,4 @@ mod parts;
 mod records;
 mod sheet;
 
-pub use sheet::maps_write_rows;
 pub use sheet::write;

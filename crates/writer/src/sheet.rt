@@ -1,4 +1,4 @@
-// The sheet of records, whole, and its C export.
+// The sheet of records, whole.
 ghost use mathlib.Core.Path.{_≡_};
 ghost use lib.ListN.{length};
 ghost use Rattle.maps.specs.Write.{numbers, writing};
@@ -12,9 +12,7 @@ use crate::parts::put_header;
 use crate::parts::put_nodes;
 use crate::records::difference_count;
 use crate::records::node_count;
-use bytes::Answer;
 use bytes::Outcome;
-use bytes::answer_of;
 use bytes::hand_over;
 
 // Room for every number of the longest sheet in two bytes.
@@ -77,20 +75,4 @@ pub fn write(
             hand_over(whole, buffer, pen.at)
         }
     }
-}
-
-#[no_mangle]
-pub extern "C" fn maps_write_rows(
-    leaves: u32,
-    top: u32,
-    horizon: u32,
-    nodes: &[u32],
-    operands: &[u32],
-    differences: &[u32],
-    buffer: &mut [u8],
-) -> Answer
-    ensures { λ r. ⌜ Answered (writing (recordsIn leaves top horizon (now (nodes .entry)) (now (operands .entry)) (now (differences .entry))) (length (now (buffer .entry))))
-        (r .number) (r .place) (now (buffer .entry)) (now (buffer .exit)) ⌝ }
-{
-    answer_of(write(leaves, top, horizon, nodes, operands, differences, buffer))
 }

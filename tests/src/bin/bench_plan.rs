@@ -19,7 +19,7 @@ extern "C" {
 
 #[cfg(feature = "before")]
 extern "C" {
-    fn before_plan(sheet: *const u8, sheet_len: usize, plan: *mut u8, plan_len: usize) -> maps_tests::library::PlanAnswer;
+    fn before_plan(sheet: *const u8, sheet_len: usize, plan: *mut u8, plan_len: usize) -> maps_tests::library::Answer;
 }
 
 /// The library where it is built, and the version before and the sketch where they are wanted.

@@ -1,0 +1,257 @@
+/* A caller in C that has records: the hall sheet of document 01 written byte for byte and planned, every refusal with its place, the first of several,
+ * exact and short buffers, known bytes round the buffer, ends of operands in every order, and the length of a sheet. It counts cases, each of several
+ * comparisons. From the folder that holds include/, tests/ and target/:
+ *
+ *   gcc -std=c11 -Wall -Wextra -Wpedantic -Werror -Wconversion -Wshadow -Iinclude tests/c/write.c -Ltarget/staticlib -lplanner -o target/write_c
+ */
+#include "cases.h"
+
+/* The greatest buffer that is lent here. */
+#define ROOM MAPS_SHEET_MOST
+
+/* Arrays for records: up to the first counts that are too many. */
+static struct maps_node nodes[257];
+static uint32_t operands[6 * 257];
+static struct maps_difference differences[1025];
+static struct maps_sheet records;
+
+/* Places of numbers in the hall sheet: the first of a node, and of its difference. */
+enum { NODE_0 = 5, NODE_2 = 15, NODE_3 = 20, NODE_4 = 27, NODE_5 = 34, DIFFERENCE = 41 };
+/* Places in a node. */
+enum { KIND, MARK, DELAY, LATENCY, COUNT, OPERANDS };
+
+/* Sets the records to those of hall; all nodes past it are inputs, all operands 0, all differences (0, 0, 0). */
+static void hall(void) {
+    static const struct maps_node hall_nodes[6] = {
+        {MAPS_INPUT, 0, 0, 0, 0}, {MAPS_INPUT, 0, 0, 0, 0}, {MAPS_INPUT, 0, 0, 0, 0},
+        {MAPS_LOGIC, 0, 1, 0, 2}, {MAPS_LOGIC, 0, 1, 0, 4}, {MAPS_LOGIC, 1, 1, 0, 6},
+    };
+    static const uint32_t hall_operands[6] = {0, 1, 3, 2, 4, 3};
+    memset(nodes, 0, sizeof nodes);
+    memset(operands, 0, sizeof operands);
+    memset(differences, 0, sizeof differences);
+    memcpy(nodes, hall_nodes, sizeof hall_nodes);
+    memcpy(operands, hall_operands, sizeof hall_operands);
+    differences[0] = (struct maps_difference){0, 5, 1};
+    records = (struct maps_sheet){3, 2, 4, nodes, 6, operands, 6, differences, 1};
+}
+
+/* Writes the records into `room` bytes between two strips. The number and place are those given; on number 0 the buffer begins with `sheet`, where
+ * one is given; all other bytes keep their values. */
+static int written(size_t room, uint64_t number, uint64_t place, const uint8_t *sheet) {
+    static uint8_t bytes[STRIP + ROOM + STRIP];
+    for (size_t i = 0; i < sizeof bytes; i++) {
+        bytes[i] = known(i);
+    }
+    int holds = same(maps_write(&records, bytes + STRIP, room), number, place);
+    size_t length = number == MAPS_ACCEPTED ? (size_t)place : 0;
+    for (size_t i = 0; i < sizeof bytes; i++) {
+        holds = holds && ((i >= STRIP && i < STRIP + length) || bytes[i] == known(i));
+    }
+    return holds && (sheet == NULL || memcmp(bytes + STRIP, sheet, length) == 0);
+}
+
+/* The records in an ample buffer, in none, and asked for the length of their sheet alone. */
+static int answered(uint64_t number, uint64_t place, const uint8_t *sheet) {
+    int holds = written(ROOM, number, place, sheet);
+    holds = written(0, number == MAPS_ACCEPTED ? (uint64_t)MAPS_BUFFER_SHORT : number, place, NULL) && holds;
+    return same(maps_write_length(&records), number, place) && holds;
+}
+
+/* One case of the records as they are. */
+static void expect(const char *name, uint64_t number, uint64_t place, const uint8_t *sheet) { check(answered(number, place, sheet), name); }
+
+/* One case: the records with one number changed, to the two values given and to others that no sheet has, are refused there. */
+static void wrong(const char *name, uint32_t *field, uint32_t one, uint32_t other, uint64_t number, uint64_t place) {
+    const uint32_t right = *field;
+    const uint32_t values[] = {one, other, 16384, right + 0x10000, right + 0x80000000u, UINT32_MAX};
+    int holds = 1;
+    for (size_t i = 0; i < sizeof values / sizeof *values; i++) {
+        *field = values[i];
+        holds = answered(number, place, NULL) && holds;
+    }
+    *field = right;
+    check(holds, name);
+}
+
+/* The hall sheet, its plan and its buffers. */
+static void the_hall(void) {
+    hall();
+    size_t length = sizeof HALL;
+    expect("hall", MAPS_ACCEPTED, length, HALL);
+    check(written(length, MAPS_ACCEPTED, length, HALL), "hall, exact buffer");
+    check(written(length + 1, MAPS_ACCEPTED, length, HALL), "hall, one byte more");
+    int holds = 1;
+    for (size_t room = 0; room < length; room++) {
+        holds = written(room, MAPS_BUFFER_SHORT, length, NULL) && holds;
+    }
+    check(holds, "8: hall, every shorter buffer");
+    uint8_t sheet[sizeof HALL];
+    struct maps_answer asked = maps_write_length(&records);
+    holds = asked.place == sizeof sheet && same(maps_write(&records, sheet, (size_t)asked.place), MAPS_ACCEPTED, asked.place);
+    check(holds, "hall, written into as many bytes as its sheet's length");
+    uint8_t plan[MAPS_PLAN_MOST];
+    struct maps_answer planned = maps_plan(sheet, (size_t)asked.place, plan, sizeof plan);
+    check(same(planned, MAPS_ACCEPTED, sizeof HALL_PLAN) && memcmp(plan, HALL_PLAN, sizeof HALL_PLAN) == 0, "the plan of what was written");
+}
+
+/* Ground 3 at every field. */
+static void values(void) {
+    hall();
+    wrong("3: K", &records.leaves, 1, 7, MAPS_VALUE, 0);
+    wrong("3: T", &records.top, 0, 65, MAPS_VALUE, 1);
+    wrong("3: H", &records.horizon, 4096, 8192, MAPS_VALUE, 2);
+    wrong("3: kind", &nodes[3].kind, 3, 4, MAPS_VALUE, NODE_3 + KIND);
+    wrong("3: mark", &nodes[5].output, 2, 255, MAPS_VALUE, NODE_5 + MARK);
+    wrong("3: d of an input", &nodes[0].delay, 1, 2, MAPS_VALUE, NODE_0 + DELAY);
+    wrong("3: d of a table", &nodes[3].delay, 0, 3, MAPS_VALUE, NODE_3 + DELAY);
+    wrong("3: lat of an input", &nodes[0].latency, 1, 255, MAPS_VALUE, NODE_0 + LATENCY);
+    wrong("3: lat of a table", &nodes[4].latency, 1, 255, MAPS_VALUE, NODE_4 + LATENCY);
+    wrong("3: u", &differences[0].from, 6, 255, MAPS_VALUE, DIFFERENCE);
+    wrong("3: v", &differences[0].to, 6, 256, MAPS_VALUE, DIFFERENCE + 1);
+    nodes[4].kind = MAPS_BOX;
+    wrong("3: d of a box", &nodes[4].delay, 3, 64, MAPS_VALUE, NODE_4 + DELAY);
+    wrong("3: lat of a box", &nodes[4].latency, 256, 257, MAPS_VALUE, NODE_4 + LATENCY);
+    static const int32_t weights[] = {4096, -4096, 8191, -8192, 65536, -65536, INT32_MAX, INT32_MIN};
+    int holds = 1;
+    for (size_t i = 0; i < sizeof weights / sizeof *weights; i++) {
+        differences[0].weight = weights[i];
+        holds = answered(MAPS_VALUE, DIFFERENCE + 2, NULL) && holds;
+    }
+    check(holds, "3: w");
+}
+
+/* Ground 3 at the counts, which are how many were given. */
+static void counts(void) {
+    hall();
+    nodes[2].operands_end = 1;
+    expect("3: an input with an operand", MAPS_VALUE, NODE_2 + COUNT, NULL);
+    hall();
+    nodes[3].operands_end = 0;
+    expect("3: a table without operands", MAPS_VALUE, NODE_3 + COUNT, NULL);
+    hall();
+    records.operand_count = 13;
+    nodes[5].operands_end = 11;
+    operands[4] = UINT32_MAX;
+    expect("3: a table with seven operands, before the operands", MAPS_VALUE, NODE_5 + COUNT, NULL);
+    nodes[5].kind = MAPS_BOX;
+    expect("3: a box with seven operands", MAPS_VALUE, NODE_5 + COUNT, NULL);
+    nodes[5].operands_end = 13;
+    expect("3: a box with nine operands", MAPS_VALUE, NODE_5 + COUNT, NULL);
+    hall();
+    records.node_count = 0;
+    expect("3: no nodes", MAPS_VALUE, 3, NULL);
+    records.node_count = 257;
+    expect("3: 257 nodes", MAPS_VALUE, 3, NULL);
+    hall();
+    records.difference_count = 1025;
+    expect("3: 1,025 differences", MAPS_VALUE, 4, NULL);
+}
+
+/* Ground 4, and which of several grounds is given. */
+static void order(void) {
+    hall();
+    wrong("4: node 3 reads itself or node 4", &operands[1], 3, 4, MAPS_OPERAND, NODE_3 + OPERANDS + 1);
+    wrong("4: node 5 reads itself or node 255", &operands[4], 5, 255, MAPS_OPERAND, NODE_5 + OPERANDS);
+    nodes[0] = (struct maps_node){MAPS_BOX, 0, 0, 0, 1};
+    wrong("4: node 0 reads itself", &operands[0], 0, 1, MAPS_OPERAND, NODE_0 + OPERANDS);
+    /* From the last number to the first. */
+    hall();
+    int holds = 1;
+    differences[0].weight = 5000;
+    holds = answered(MAPS_VALUE, DIFFERENCE + 2, NULL) && holds;
+    differences[0].to = 6;
+    holds = answered(MAPS_VALUE, DIFFERENCE + 1, NULL) && holds;
+    operands[5] = 6;
+    holds = answered(MAPS_OPERAND, NODE_5 + OPERANDS + 1, NULL) && holds;
+    nodes[5].delay = 0;
+    holds = answered(MAPS_VALUE, NODE_5 + DELAY, NULL) && holds;
+    operands[0] = UINT32_MAX;
+    holds = answered(MAPS_OPERAND, NODE_3 + OPERANDS, NULL) && holds;
+    nodes[3].output = 2;
+    holds = answered(MAPS_VALUE, NODE_3 + MARK, NULL) && holds;
+    records.difference_count = 1025;
+    holds = answered(MAPS_VALUE, 4, NULL) && holds;
+    records.node_count = 0;
+    holds = answered(MAPS_VALUE, 3, NULL) && holds;
+    records.horizon = 4096;
+    holds = answered(MAPS_VALUE, 2, NULL) && holds;
+    records.leaves = 7;
+    holds = answered(MAPS_VALUE, 0, NULL) && holds;
+    check(holds, "3 and 4: the first number in the sheet's order");
+    /* H and w have two bytes: the place is no byte of the sheet. */
+    hall();
+    records.horizon = 300;
+    differences[0].weight = 100;
+    differences[1].from = 6;
+    records.difference_count = 2;
+    expect("3: a number after numbers of two bytes", MAPS_VALUE, DIFFERENCE + 3, NULL);
+}
+
+/* Ends of operands that fall or lie past the array, pointers that are null, and rows that are not complete. */
+static void rows(void) {
+    hall();
+    nodes[5].operands_end = UINT32_MAX;
+    expect("hall with an end past the array", MAPS_ACCEPTED, sizeof HALL, HALL);
+    static const struct maps_node falling[4] = {{MAPS_INPUT, 0, 0, 0, 0}, {MAPS_BOX, 0, 0, 0, 1}, {MAPS_BOX, 0, 0, 0, 0}, {MAPS_BOX, 1, 0, 0, 3}};
+    static const uint32_t three[3] = {0, 1, 2};
+    static const uint8_t falling_sheet[] = {2, 1, 0, 4, 0, 0, 0, 0, 0, 0, 2, 0, 0, 0, 1, 0, 2, 0, 0, 0, 0, 2, 1, 0, 0, 3, 0, 1, 2};
+    records = (struct maps_sheet){2, 1, 0, falling, 4, three, 3, NULL, 0};
+    expect("an end that falls: no operands, and the next from there", MAPS_ACCEPTED, sizeof falling_sheet, falling_sheet);
+    static const struct maps_node past[4] = {{MAPS_INPUT, 0, 0, 0, 0}, {MAPS_BOX, 0, 0, 0, 4}, {MAPS_BOX, 0, 0, 0, 9}, {MAPS_BOX, 1, 0, 0, 2}};
+    static const uint32_t zeros[3] = {0, 0, 0};
+    static const uint8_t past_sheet[] = {2, 1, 0, 4, 0, 0, 0, 0, 0, 0, 2, 0, 0, 0, 3, 0, 0, 0, 2, 0, 0, 0, 0, 2, 1, 0, 0, 0};
+    records = (struct maps_sheet){2, 1, 0, past, 4, zeros, 3, NULL, 0};
+    expect("ends past the array, and one that falls after them", MAPS_ACCEPTED, sizeof past_sheet, past_sheet);
+    static const uint8_t one_input[] = {2, 1, 0, 1, 0, 0, 0, 0, 0, 0};
+    records = (struct maps_sheet){2, 1, 0, falling, 1, NULL, 0, NULL, 0};
+    expect("one input, no operands and differences, null", MAPS_ACCEPTED, sizeof one_input, one_input);
+    records = (struct maps_sheet){2, 1, 0, NULL, 0, NULL, 0, NULL, 0};
+    expect("3: no nodes, null", MAPS_VALUE, 3, NULL);
+    static const uint32_t pair[14] = {0, 0, 0, 0, 0, 0, 0, 0, 0, 0, 9, 9, 9, 9};
+    static const uint32_t equal[5] = {0, 1, UINT32_MAX, 9, 9};
+    static const uint8_t pair_sheet[] = {2, 1, 0, 2, 1, 0, 0, 0, 0, 0, 0, 0, 0, 0, 0, 0, 1, 1};
+    uint8_t sheet[sizeof pair_sheet];
+    int holds = 1;
+    for (size_t more = 0; more < 5; more++) {
+        size_t few = more < 3 ? more : 2;
+        memset(sheet, 0xa5, sizeof sheet);
+        holds = same(maps_write_rows(2, 1, 0, pair, 10 + more, three, 0, equal, 3 + few, sheet, sizeof sheet), 0, sizeof sheet) && holds;
+        holds = memcmp(sheet, pair_sheet, sizeof sheet) == 0 && holds;
+        holds = same(maps_write_rows(2, 1, 0, pair, more, three, 0, equal, 0, sheet, sizeof sheet), MAPS_VALUE, 3) && holds;
+    }
+    check(holds, "rows that are not complete are ignored");
+}
+
+/* The longest sheet: 256 nodes, boxes of six operands past node 0, 1,024 differences, two bytes wherever a number may have them. */
+static void longest(void) {
+    hall();
+    for (uint32_t v = 0; v < 256; v++) {
+        nodes[v] = (struct maps_node){MAPS_BOX, 1, 64, 255, 6 * v};
+        for (uint32_t i = 0; i < 6 && v > 0; i++) {
+            operands[6 * (v - 1) + i] = v - 1;
+        }
+    }
+    for (size_t i = 0; i < 1024; i++) {
+        differences[i] = (struct maps_difference){255, 128, i % 2 == 0 ? 4095 : -4095};
+    }
+    records = (struct maps_sheet){6, 64, 4095, nodes, 256, operands, 6 * 255, differences, 1024};
+    /* Node 0 has 6 bytes, nodes 1 to 128 have 12 and the others 18. */
+    size_t length = 8 + 6 + 128 * 12 + 127 * 18 + 1024 * 6;
+    expect("the longest sheet", MAPS_ACCEPTED, length, NULL);
+    check(length <= MAPS_SHEET_MOST && written(length, MAPS_ACCEPTED, length, NULL), "the longest sheet, exact buffer");
+    check(written(length - 1, MAPS_BUFFER_SHORT, length, NULL), "8: the longest sheet, one byte short");
+    uint8_t sheet[MAPS_SHEET_MOST];
+    struct maps_answer answer = maps_write(&records, sheet, sizeof sheet);
+    check(maps_accepted(answer) && same(maps_plan_length(sheet, (size_t)answer.place), MAPS_LATE, 0), "the longest sheet reads");
+}
+
+int main(void) {
+    the_hall();
+    values();
+    counts();
+    order();
+    rows();
+    longest();
+    return counted();
+}

@@ -1,0 +1,156 @@
+//! Writing a sheet as documents 01 and 02 say, from records whose fields may have any value, or the number and place of the refusal.
+use crate::limits::{fields, Range, H, K, KIND, M, MARK, N, T, W};
+use crate::made::spelled;
+use crate::reader::{self, Difference, Refusal, Sheet};
+
+/// A node as it is given.
+#[derive(Clone, Debug, PartialEq)]
+pub struct Node {
+    pub kind: u32,
+    pub output: u32,
+    pub delay: u32,
+    pub latency: u32,
+    pub operands: Vec<u32>,
+}
+
+impl From<&reader::Node> for Node {
+    fn from(node: &reader::Node) -> Node {
+        Node { kind: node.kind, output: u32::from(node.output), delay: node.delay, latency: node.latency, operands: node.operands.clone() }
+    }
+}
+
+/// Header, nodes and differences as they are given.
+#[derive(Clone, Debug, PartialEq)]
+pub struct Records {
+    pub leaves: u32,
+    pub top: u32,
+    pub horizon: u32,
+    pub nodes: Vec<Node>,
+    pub differences: Vec<Difference>,
+}
+
+impl From<&Sheet> for Records {
+    fn from(sheet: &Sheet) -> Records {
+        let nodes = sheet.nodes.iter().map(Node::from).collect();
+        Records { leaves: sheet.leaves, top: sheet.top, horizon: sheet.horizon, nodes, differences: sheet.differences.clone() }
+    }
+}
+
+/// The numbers of a sheet that have been found right so far.
+#[derive(Default)]
+struct Numbers(Vec<u32>);
+
+impl Numbers {
+    /// The refusal at the next number.
+    fn refusal(&self, number: u64) -> Refusal {
+        (number, self.0.len() as u64)
+    }
+
+    fn ranged(&mut self, value: u32, (low, high): Range) -> Result<(), Refusal> {
+        if value < low || value > high {
+            return Err(self.refusal(3));
+        }
+        self.0.push(value);
+        Ok(())
+    }
+
+    /// A count of what was given, however much that is.
+    fn count(&mut self, count: usize, range: Range) -> Result<(), Refusal> {
+        self.ranged(count.try_into().unwrap_or(u32::MAX), range)
+    }
+
+    fn operand(&mut self, id: u32, own: usize) -> Result<(), Refusal> {
+        if id as usize >= own {
+            return Err(self.refusal(4));
+        }
+        self.0.push(id);
+        Ok(())
+    }
+
+    /// w, judged as w and then coded.
+    fn weight(&mut self, w: i32) -> Result<(), Refusal> {
+        if w.unsigned_abs() > W {
+            return Err(self.refusal(3));
+        }
+        self.0.push(if w >= 0 { 2 * w } else { -2 * w - 1 } as u32);
+        Ok(())
+    }
+}
+
+/// The numbers of the sheet of these records, or 3 or 4 at the first that reading would refuse.
+pub fn numbers(records: &Records) -> Result<Vec<u32>, Refusal> {
+    let mut numbers = Numbers::default();
+    numbers.ranged(records.leaves, K)?;
+    numbers.ranged(records.top, T)?;
+    numbers.ranged(records.horizon, H)?;
+    numbers.count(records.nodes.len(), N)?;
+    numbers.count(records.differences.len(), M)?;
+    for (own, node) in records.nodes.iter().enumerate() {
+        numbers.ranged(node.kind, KIND)?;
+        numbers.ranged(node.output, MARK)?;
+        let fields = fields(node.kind, records.top);
+        numbers.ranged(node.delay, fields.delay)?;
+        numbers.ranged(node.latency, fields.latency)?;
+        numbers.count(node.operands.len(), fields.operands)?;
+        for &id in &node.operands {
+            numbers.operand(id, own)?;
+        }
+    }
+    let ids = (0, records.nodes.len() as u32 - 1);
+    for difference in &records.differences {
+        numbers.ranged(difference.from, ids)?;
+        numbers.ranged(difference.to, ids)?;
+        numbers.weight(difference.weight)?;
+    }
+    Ok(numbers.0)
+}
+
+/// Number, place and what is written, if anything is, for a buffer of `room` bytes.
+pub fn outcome(records: &Records, room: usize) -> (u64, u64, Option<Vec<u8>>) {
+    match numbers(records).map(|numbers| spelled(&numbers)) {
+        Err((number, place)) => (number, place, None),
+        Ok(bytes) if bytes.len() > room => (8, bytes.len() as u64, None),
+        Ok(bytes) => (0, bytes.len() as u64, Some(bytes)),
+    }
+}
+
+/// Records as the library's call takes them: five numbers for a node (kind, mark, d, lat, the end of its operands) and three for a difference
+/// (u, v, the bits of w).
+#[derive(Clone, Debug, PartialEq)]
+pub struct Rows {
+    pub leaves: u32,
+    pub top: u32,
+    pub horizon: u32,
+    pub nodes: Vec<u32>,
+    pub operands: Vec<u32>,
+    pub differences: Vec<u32>,
+}
+
+impl From<&Records> for Rows {
+    fn from(records: &Records) -> Rows {
+        let (mut nodes, mut operands) = (Vec::new(), Vec::new());
+        for node in &records.nodes {
+            operands.extend(&node.operands);
+            nodes.extend([node.kind, node.output, node.delay, node.latency, operands.len() as u32]);
+        }
+        let differences = records.differences.iter().flat_map(|d| [d.from, d.to, d.weight as u32]).collect();
+        Rows { leaves: records.leaves, top: records.top, horizon: records.horizon, nodes, operands, differences }
+    }
+}
+
+impl Rows {
+    /// The records that any rows stand for. A node's operands go from the end of the node before to its own end, as far as the array goes; there are
+    /// none where that end does not come after the start. A row that is not complete is none.
+    pub fn records(&self) -> Records {
+        let mut start = 0;
+        let nodes = self.nodes.chunks_exact(5).map(|row| {
+            let end = row[4] as usize;
+            let operands = (start..end).map_while(|i| self.operands.get(i).copied()).collect();
+            start = end;
+            Node { kind: row[0], output: row[1], delay: row[2], latency: row[3], operands }
+        });
+        let nodes = nodes.collect();
+        let differences = self.differences.chunks_exact(3).map(|row| Difference { from: row[0], to: row[1], weight: row[2] as i32 }).collect();
+        Records { leaves: self.leaves, top: self.top, horizon: self.horizon, nodes, differences }
+    }
+}
