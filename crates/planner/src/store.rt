@@ -2,7 +2,7 @@
 ghost use lib.ListN.{length};
 ghost use Rattle.maps.specs.Write.{writing};
 ghost use Rattle.bytes.specs.Outcome.{Answered};
-ghost use Rattle.writer.specs.Rows.{recordsIn};
+ghost use Rattle.records.specs.Rows.{recordsIn};
 use bytes::Answer;
 use bytes::answer_of;
 use writer::write;

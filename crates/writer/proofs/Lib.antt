@@ -1,4 +1,2 @@
-pub mod Wroting
-pub mod Fields
 pub mod NodeRows
 pub mod Sheets

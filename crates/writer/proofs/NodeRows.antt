@@ -11,12 +11,12 @@ use Rattle.maps.specs.Limits.{kindRange, markRange, rangesOf, operandsMost}
 use Rattle.maps.specs.Form.{among, under}
 use Rattle.maps.specs.Write.{Entry, entry, Passes, nodeNumbers}
 use Rattle.maps.proofs.Parse.{in-range}
-use Rattle.writer.specs.Rows.{nodeRow, endOf, operandsIn, nodeIn}
-use Rattle.writer.specs.Wrote.{nodeMost, Wrote, on}
-use Rattle.writer.specs.declared.records.NodeRow.{NodeRow}
-use Rattle.writer.specs.declared.numbers.Pen.{Pen}
-use Rattle.writer.specs.declared.numbers.Progress.the-variants.{Next}
-use Rattle.writer.proofs.Wroting.{Come}
+use Rattle.records.specs.Rows.{nodeRow, endOf, operandsIn, nodeIn}
+use Rattle.pen.specs.Wrote.{nodeMost, Wrote, on}
+use Rattle.records.specs.declared.NodeRow.{NodeRow}
+use Rattle.pen.specs.declared.Pen.{Pen}
+use Rattle.pen.specs.declared.Progress.the-variants.{Next}
+use Rattle.pen.proofs.Wroting.{Come}
 
 -- the numbers of a node before its operand ids, of which there are `count`
 abbrev pub headOf : (top : ℕ) → NodeRow → (count : ℕ) → List Entry

@@ -17,11 +17,11 @@ use Rattle.maps.proofs.Member.{All-split}
 use Rattle.maps.proofs.Parse.{in-range}
 use Rattle.maps.proofs.Numbers.{concat-snoc, each-below}
 use Rattle.maps.proofs.Written.{passes-writing, first-refused}
-use Rattle.writer.specs.Rows.{nodePlace, differencePlace, rowsIn, nodeIn, differenceIn, recordsIn}
-use Rattle.writer.specs.Wrote.{nodeMost, numbersMost, sheetRoom, start, Room, Wrote, on, off}
-use Rattle.writer.specs.declared.numbers.Pen.{Pen}
-use Rattle.writer.specs.declared.numbers.Progress.the-variants.{Next, Refused}
-use Rattle.writer.proofs.Wroting.{Come}
+use Rattle.records.specs.Rows.{nodePlace, differencePlace, rowsIn, nodeIn, differenceIn, recordsIn}
+use Rattle.pen.specs.Wrote.{nodeMost, numbersMost, sheetRoom, start, Room, Wrote, on, off}
+use Rattle.pen.specs.declared.Pen.{Pen}
+use Rattle.pen.specs.declared.Progress.the-variants.{Next, Refused}
+use Rattle.pen.proofs.Wroting.{Come}
 use Rattle.writer.proofs.NodeRows.{node-most}
 
 -- K, T, H, n, m

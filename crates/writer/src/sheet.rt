@@ -3,17 +3,17 @@ ghost use mathlib.Core.Path.{_≡_};
 ghost use lib.ListN.{length};
 ghost use Rattle.maps.specs.Write.{numbers, writing};
 ghost use Rattle.bytes.specs.Outcome.{Answered, numberAnswered, placeAnswered};
-ghost use Rattle.writer.specs.Rows.{recordsIn};
-ghost use Rattle.writer.specs.Wrote.{sheetRoom, start, Wrote};
-use crate::numbers::Pen;
-use crate::numbers::Progress;
+ghost use Rattle.records.specs.Rows.{recordsIn};
+ghost use Rattle.pen.specs.Wrote.{sheetRoom, start, Wrote};
 use crate::parts::put_differences;
-use crate::parts::put_header;
 use crate::parts::put_nodes;
-use crate::records::difference_count;
-use crate::records::node_count;
 use bytes::Outcome;
 use bytes::hand_over;
+use entries::put_header;
+use pen::Pen;
+use pen::Progress;
+use records::difference_count;
+use records::node_count;
 
 // Room for every number of the longest sheet in two bytes.
 pub type SheetBytes = [u8; 11786];

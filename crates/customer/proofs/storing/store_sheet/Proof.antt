@@ -1,6 +1,6 @@
 -- `storing::store_sheet` meets its contract.
 use borrow.Author.Needs.{needs}
-use Rattle.writer.specs.Rows.{recordsIn}
+use Rattle.records.specs.Rows.{recordsIn}
 use Rattle.customer.proofs.Stores.{stores, store-bounded}
 use Rattle.customer.proofs.storing.store_sheet.Statement.{statement}
 use Rattle.customer.proofs.storing.store_sheet.Tie as tie

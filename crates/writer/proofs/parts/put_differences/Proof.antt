@@ -5,10 +5,10 @@ use mathlib.Core.List.{List, map}
 use borrow.Author.Needs.{needs}
 use Rattle.maps.specs.Lists.{below, concat}
 use Rattle.maps.specs.Write.{Entry, differenceNumbers}
-use Rattle.writer.specs.Rows.{differenceIn}
-use Rattle.writer.specs.Wrote.{differenceMost, Wrote}
-use Rattle.writer.specs.declared.numbers.Progress.the-variants.{Next}
-use Rattle.writer.proofs.Wroting.{Come, begun, has-come, come-none, come-then, room-left, wrote-none, wrote-wide, rows-next, rows-stop, rows-all}
+use Rattle.records.specs.Rows.{differenceIn}
+use Rattle.pen.specs.Wrote.{differenceMost, Wrote}
+use Rattle.pen.specs.declared.Progress.the-variants.{Next}
+use Rattle.pen.proofs.Wroting.{Come, begun, has-come, come-none, come-then, room-left, wrote-none, wrote-wide, rows-next, rows-stop, rows-all}
 use Rattle.writer.proofs.parts.put_differences.Statement.{statement}
 use Rattle.writer.proofs.parts.put_differences.Tie as tie
 
@@ -38,7 +38,7 @@ returns c =
     let t = f .before .before in
     let l = t .before .loop in
     let s = t .before .before .before .before in
-    rows-stop (row (s .args .differences .now) (s .args .n)) (l .j) (s .args .m) (t .loop-test .taken) (c .enum-told .given .1) (l .inv .2) (f .put-difference .ensures)
+    rows-stop (row (s .args .differences .now) (s .args .n)) (l .j) (s .args .m) (omega (arith, t .loop-test .taken)) (c .enum-told .given .1) (l .inv .2) (f .put-difference .ensures)
 
 same-length : tie.Need-same-length Inv-loop μ-loop
 same-length c = wrote-wide (returns c)
@@ -59,7 +59,7 @@ returns-2 : tie.Need-returns-2 Inv-loop μ-loop
 returns-2 c =
     let l = c .before .loop in
     let s = c .before .before .before .before in
-    rows-all (row (s .args .differences .now) (s .args .n)) (l .j) (s .args .m) (l .inv .0) (c .loop-test .left) (l .inv .2)
+    rows-all (row (s .args .differences .now) (s .args .n)) (l .j) (s .args .m) (l .inv .0) (omega (arith, c .loop-test .left)) (l .inv .2)
 
 same-length-2 : tie.Need-same-length-2 Inv-loop μ-loop
 same-length-2 c = wrote-wide (returns-2 c)

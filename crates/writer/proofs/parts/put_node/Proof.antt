@@ -8,8 +8,8 @@ use lib.ListN.{take, drop}
 use borrow.Author.Needs.{needs}
 use Rattle.maps.specs.Form.{under}
 use Rattle.maps.specs.Write.{entry}
-use Rattle.writer.specs.Wrote.{headMost}
-use Rattle.writer.proofs.Wroting.{begun, stopped, last-one, wrote-wide, has-come, room-left, room-less}
+use Rattle.pen.specs.Wrote.{headMost}
+use Rattle.pen.proofs.Wroting.{begun, stopped, last-one, wrote-wide, has-come, room-left, room-less}
 use Rattle.writer.proofs.NodeRows.{head-few, within-array, node-numbers}
 use Rattle.writer.proofs.parts.put_node.Statement.{statement}
 use Rattle.writer.proofs.parts.put_node.Tie as tie

@@ -6,10 +6,10 @@ use mathlib.Core.List.{List, map}
 use borrow.Author.Needs.{needs}
 use Rattle.maps.specs.Lists.{below, concat}
 use Rattle.maps.specs.Write.{Entry, nodeNumbers}
-use Rattle.writer.specs.Rows.{endOf, nodeIn}
-use Rattle.writer.specs.Wrote.{nodeMost, Wrote}
-use Rattle.writer.specs.declared.numbers.Progress.the-variants.{Next}
-use Rattle.writer.proofs.Wroting.{Come, begun, come-none, come-then, room-left, wrote-none, wrote-wide, rows-next, rows-stop, rows-all}
+use Rattle.records.specs.Rows.{endOf, nodeIn}
+use Rattle.pen.specs.Wrote.{nodeMost, Wrote}
+use Rattle.pen.specs.declared.Progress.the-variants.{Next}
+use Rattle.pen.proofs.Wroting.{Come, begun, come-none, come-then, room-left, wrote-none, wrote-wide, rows-next, rows-stop, rows-all}
 use Rattle.writer.proofs.NodeRows.{node-come}
 use Rattle.writer.proofs.parts.put_nodes.Statement.{statement}
 use Rattle.writer.proofs.parts.put_nodes.Tie as tie
@@ -44,7 +44,7 @@ returns c =
     let t = f .before .before in
     let l = t .before .loop in
     let s = t .before .before .before .before .before in
-    rows-stop (row (s .args .nodes .now) (s .args .operands .now) (s .args .top)) (l .v) (s .args .n) (t .loop-test .taken) (c .enum-told .given .1) (l .inv .3) (f .put-node .ensures)
+    rows-stop (row (s .args .nodes .now) (s .args .operands .now) (s .args .top)) (l .v) (s .args .n) (omega (arith, t .loop-test .taken)) (c .enum-told .given .1) (l .inv .3) (f .put-node .ensures)
 
 same-length : tie.Need-same-length Inv-loop μ-loop
 same-length c = wrote-wide (returns c)
@@ -74,7 +74,7 @@ returns-2 : tie.Need-returns-2 Inv-loop μ-loop
 returns-2 c =
     let l = c .before .loop in
     let s = c .before .before .before .before .before in
-    rows-all (row (s .args .nodes .now) (s .args .operands .now) (s .args .top)) (l .v) (s .args .n) (l .inv .0) (c .loop-test .left) (l .inv .3)
+    rows-all (row (s .args .nodes .now) (s .args .operands .now) (s .args .top)) (l .v) (s .args .n) (l .inv .0) (omega (arith, c .loop-test .left)) (l .inv .3)
 
 same-length-2 : tie.Need-same-length-2 Inv-loop μ-loop
 same-length-2 c = wrote-wide (returns-2 c)

@@ -8,9 +8,9 @@ use Rattle.maps.specs.Lists.{below, concat}
 use Rattle.maps.specs.Form.{under}
 use Rattle.maps.specs.Write.{Entry, entry}
 use Rattle.maps.proofs.Numbers.{slice-below}
-use Rattle.writer.specs.Wrote.{Wrote}
-use Rattle.writer.specs.declared.numbers.Progress.the-variants.{Next}
-use Rattle.writer.proofs.Wroting.{Come, begun, has-come, come-none, come-then, room-left, wrote-none, wrote-wide, rows-next, rows-stop, rows-all}
+use Rattle.pen.specs.Wrote.{Wrote}
+use Rattle.pen.specs.declared.Progress.the-variants.{Next}
+use Rattle.pen.proofs.Wroting.{Come, begun, has-come, come-none, come-then, room-left, wrote-none, wrote-wide, rows-next, rows-stop, rows-all}
 use Rattle.writer.proofs.parts.put_operands.Statement.{statement}
 use Rattle.writer.proofs.parts.put_operands.Tie as tie
 
@@ -41,7 +41,7 @@ returns c =
     let l = t .before .loop in
     let s = t .before .before .before .before in
     rw (slice-below (entry (under (s .args .own))) (s .args .operands .now) (s .args .first) (s .args .count) (s .pre .0))
-    (rows-stop (id (s .args .operands .now) (s .args .own) (s .args .first)) (l .i) (s .args .count) (t .loop-test .taken) (c .enum-told .given .1) (l .inv .2) (f .put-operand .ensures))
+    (rows-stop (id (s .args .operands .now) (s .args .own) (s .args .first)) (l .i) (s .args .count) (omega (arith, t .loop-test .taken)) (c .enum-told .given .1) (l .inv .2) (f .put-operand .ensures))
 
 same-length : tie.Need-same-length Inv-loop μ-loop
 same-length c = wrote-wide (returns c)
@@ -63,7 +63,7 @@ returns-2 c =
     let l = c .before .loop in
     let s = c .before .before .before .before in
     rw (slice-below (entry (under (s .args .own))) (s .args .operands .now) (s .args .first) (s .args .count) (s .pre .0))
-    (rows-all (id (s .args .operands .now) (s .args .own) (s .args .first)) (l .i) (s .args .count) (l .inv .0) (c .loop-test .left) (l .inv .2))
+    (rows-all (id (s .args .operands .now) (s .args .own) (s .args .first)) (l .i) (s .args .count) (l .inv .0) (omega (arith, c .loop-test .left)) (l .inv .2))
 
 same-length-2 : tie.Need-same-length-2 Inv-loop μ-loop
 same-length-2 c = wrote-wide (returns-2 c)

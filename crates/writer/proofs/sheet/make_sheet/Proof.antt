@@ -4,8 +4,8 @@ use native.Mathlib.Omega.{arith}
 use mathlib.Core.List.{_++_, map}
 use borrow.Author.Needs.{needs}
 use Rattle.maps.specs.Lists.{below, concat}
-use Rattle.writer.specs.Wrote.{headerMost, nodeMost, differenceMost}
-use Rattle.writer.proofs.Wroting.{begun, stopped, last-one, has-come, come-then, room-left, room-less}
+use Rattle.pen.specs.Wrote.{headerMost, nodeMost, differenceMost}
+use Rattle.pen.proofs.Wroting.{begun, stopped, last-one, has-come, come-then, room-left, room-less}
 use Rattle.writer.proofs.Sheets.{limited, room-whole, nodesOf, differencesOf, nodes-come, numbers-in}
 use Rattle.writer.proofs.sheet.make_sheet.Statement.{statement}
 use Rattle.writer.proofs.sheet.make_sheet.Tie as tie

@@ -3,7 +3,7 @@ use native.Mathlib.Omega.{arith}
 use mathlib.Core.Path.{refl}
 use lib.ListN.{length}
 use borrow.Author.Needs.{needs}
-use Rattle.writer.specs.Rows.{recordsIn}
+use Rattle.records.specs.Rows.{recordsIn}
 use Rattle.writer.proofs.Sheets.{made, made-within, not-made}
 use Rattle.writer.proofs.sheet.write.Statement.{statement}
 use Rattle.writer.proofs.sheet.write.Tie as tie

@@ -1,0 +1,186 @@
+-- `put_head` meets its contract: one number after the other, each in the range that the table gives for the kind.
+use native.Mathlib.Omega.{arith}
+use borrow.Author.Needs.{needs}
+use mathlib.Core.List.{[], _∷_}
+use Rattle.maps.specs.Limits.{markRange, rangesOf}
+use Rattle.maps.specs.Form.{among}
+use Rattle.maps.specs.Write.{entry}
+use Rattle.ranges.proofs.RangeLaws.{delays-right, latencies-right, operands-right}
+use Rattle.pen.proofs.Fields.{ranges-small}
+use Rattle.pen.proofs.Wroting.{begun, more, stopped, last-one, wrote-wide, has-come, room-left, room-less}
+use Rattle.entries.proofs.put_head.Statement.{statement}
+use Rattle.entries.proofs.put_head.Tie as tie
+
+returns : tie.Need-returns
+returns c =
+    let f1 = c .before .before .before .before in
+    let s = f1 .before .before .before .before .before .before in
+    stopped (entry (among markRange) (s .args .row .output) ∷ entry (among (rangesOf (s .args .top) (s .args .row .kind) .delay)) (s .args .row .delay) ∷ entry (among (rangesOf (s .args .top) (s .args .row .kind) .latency)) (s .args .row .latency) ∷ entry (among (rangesOf (s .args .top) (s .args .row .kind) .operands)) (s .args .count) ∷ []) (c .enum-told .given .1) (f1 .put-field .ensures)
+
+put-field-requires-2 : tie.Need-put-field-requires-2
+put-field-requires-2 c κs =
+    let k1 = c .before in
+    let f1 = k1 .before .before .before .before .before in
+    let s = f1 .before .before .before .before .before .before in
+    let w1 = begun (k1 .before .kind-put .given .1) (f1 .put-field .ensures) in
+    room-left 1 (omega arith) (has-come w1) (s .pre .1)
+
+returns-2 : tie.Need-returns-2
+returns-2 c =
+    let f2 = c .before .before .before .before in
+    let k1 = f2 .before .before in
+    let f1 = k1 .before .before .before .before .before in
+    let s = f1 .before .before .before .before .before .before in
+    let w1 = begun (k1 .before .kind-put .given .1) (f1 .put-field .ensures) in
+    last-one w1 (stopped (entry (among (rangesOf (s .args .top) (s .args .row .kind) .delay)) (s .args .row .delay) ∷ entry (among (rangesOf (s .args .top) (s .args .row .kind) .latency)) (s .args .row .latency) ∷ entry (among (rangesOf (s .args .top) (s .args .row .kind) .operands)) (s .args .count) ∷ []) (c .enum-told2 .given .1) (f2 .put-field2 .ensures))
+
+put-in-requires : tie.Need-put-in-requires
+put-in-requires c κs =
+    let k2 = c .before .before .before .before in
+    let f2 = k2 .before .before .before .before .before in
+    let k1 = f2 .before .before in
+    let f1 = k1 .before .before .before .before .before in
+    let s = f1 .before .before .before .before .before .before in
+    let all = c .before .before .before .ranges-of in
+    let d = delays-right (s .args .top) (s .args .row .kind) (all .result) (s .pre .0) (all .ensures) _ (c .up-to .ensures) in
+    let small = ranges-small (s .args .top) (s .args .row .kind) (s .pre .0) in
+    let w1 = begun (k1 .before .kind-put .given .1) (f1 .put-field .ensures) in
+    let w2 = more w1 (k2 .before .mark-put .given .1) (f2 .put-field2 .ensures) in
+    (omega (arith, d .1, small .0), room-left 1 (omega arith) (has-come w2) (s .pre .1))
+
+returns-3 : tie.Need-returns-3
+returns-3 c =
+    let f3 = c .before .before .before .before in
+    let k2 = f3 .before .before .before .before .before in
+    let f2 = k2 .before .before .before .before .before in
+    let k1 = f2 .before .before in
+    let f1 = k1 .before .before .before .before .before in
+    let s = f1 .before .before .before .before .before .before in
+    let all = f3 .before .before .before .before .ranges-of in
+    let d = delays-right (s .args .top) (s .args .row .kind) (all .result) (s .pre .0) (all .ensures) _ (f3 .before .up-to .ensures) in
+    let w1 = begun (k1 .before .kind-put .given .1) (f1 .put-field .ensures) in
+    let w2 = more w1 (k2 .before .mark-put .given .1) (f2 .put-field2 .ensures) in
+    last-one w2 (stopped (entry (among (rangesOf (s .args .top) (s .args .row .kind) .latency)) (s .args .row .latency) ∷ entry (among (rangesOf (s .args .top) (s .args .row .kind) .operands)) (s .args .count) ∷ []) (c .enum-told3 .given .1) (rw (d .0, d .1) at (f3 .put-in .ensures)))
+
+same-length-3 : tie.Need-same-length-3
+same-length-3 c = wrote-wide (returns-3 c)
+
+put-in-requires-2 : tie.Need-put-in-requires-2
+put-in-requires-2 c κs =
+    let k3 = c .before .before in
+    let f3 = k3 .before .before .before .before .before in
+    let k2 = f3 .before .before .before .before .before in
+    let f2 = k2 .before .before .before .before .before in
+    let k1 = f2 .before .before in
+    let f1 = k1 .before .before .before .before .before in
+    let s = f1 .before .before .before .before .before .before in
+    let all = f3 .before .before .before .before .ranges-of in
+    let d = delays-right (s .args .top) (s .args .row .kind) (all .result) (s .pre .0) (all .ensures) _ (f3 .before .up-to .ensures) in
+    let l = latencies-right (s .args .top) (s .args .row .kind) (all .result) (s .pre .0) (all .ensures) in
+    let small = ranges-small (s .args .top) (s .args .row .kind) (s .pre .0) in
+    let w1 = begun (k1 .before .kind-put .given .1) (f1 .put-field .ensures) in
+    let w2 = more w1 (k2 .before .mark-put .given .1) (f2 .put-field2 .ensures) in
+    let w3 = more w2 (k3 .before .delay-put .given .1) (rw (d .0, d .1) at (f3 .put-in .ensures)) in
+    (omega (arith, l .1, small .1), room-left 1 (omega arith) (has-come w3) (s .pre .1))
+
+returns-4 : tie.Need-returns-4
+returns-4 c =
+    let f4 = c .before .before .before .before in
+    let k3 = f4 .before .before .before in
+    let f3 = k3 .before .before .before .before .before in
+    let k2 = f3 .before .before .before .before .before in
+    let f2 = k2 .before .before .before .before .before in
+    let k1 = f2 .before .before in
+    let f1 = k1 .before .before .before .before .before in
+    let s = f1 .before .before .before .before .before .before in
+    let all = f3 .before .before .before .before .ranges-of in
+    let d = delays-right (s .args .top) (s .args .row .kind) (all .result) (s .pre .0) (all .ensures) _ (f3 .before .up-to .ensures) in
+    let l = latencies-right (s .args .top) (s .args .row .kind) (all .result) (s .pre .0) (all .ensures) in
+    let w1 = begun (k1 .before .kind-put .given .1) (f1 .put-field .ensures) in
+    let w2 = more w1 (k2 .before .mark-put .given .1) (f2 .put-field2 .ensures) in
+    let w3 = more w2 (k3 .before .delay-put .given .1) (rw (d .0, d .1) at (f3 .put-in .ensures)) in
+    last-one w3 (stopped (entry (among (rangesOf (s .args .top) (s .args .row .kind) .operands)) (s .args .count) ∷ []) (c .enum-told4 .given .1) (rw (l .0, l .1) at (f4 .put-in2 .ensures)))
+
+same-length-4 : tie.Need-same-length-4
+same-length-4 c = wrote-wide (returns-4 c)
+
+put-in-requires-3 : tie.Need-put-in-requires-3
+put-in-requires-3 c κs =
+    let k4 = c .before .before in
+    let f4 = k4 .before .before .before .before .before in
+    let k3 = f4 .before .before .before in
+    let f3 = k3 .before .before .before .before .before in
+    let k2 = f3 .before .before .before .before .before in
+    let f2 = k2 .before .before .before .before .before in
+    let k1 = f2 .before .before in
+    let f1 = k1 .before .before .before .before .before in
+    let s = f1 .before .before .before .before .before .before in
+    let all = f3 .before .before .before .before .ranges-of in
+    let d = delays-right (s .args .top) (s .args .row .kind) (all .result) (s .pre .0) (all .ensures) _ (f3 .before .up-to .ensures) in
+    let l = latencies-right (s .args .top) (s .args .row .kind) (all .result) (s .pre .0) (all .ensures) in
+    let o = operands-right (s .args .top) (s .args .row .kind) (all .result) (s .pre .0) (all .ensures) in
+    let small = ranges-small (s .args .top) (s .args .row .kind) (s .pre .0) in
+    let w1 = begun (k1 .before .kind-put .given .1) (f1 .put-field .ensures) in
+    let w2 = more w1 (k2 .before .mark-put .given .1) (f2 .put-field2 .ensures) in
+    let w3 = more w2 (k3 .before .delay-put .given .1) (rw (d .0, d .1) at (f3 .put-in .ensures)) in
+    let w4 = more w3 (k4 .before .latency-put .given .1) (rw (l .0, l .1) at (f4 .put-in2 .ensures)) in
+    (omega (arith, o .1, small .2), room-left 1 (omega arith) (has-come w4) (s .pre .1))
+
+returns-5 : tie.Need-returns-5
+returns-5 c =
+    let f5 = c .before .before in
+    let k4 = f5 .before .before .before in
+    let f4 = k4 .before .before .before .before .before in
+    let k3 = f4 .before .before .before in
+    let f3 = k3 .before .before .before .before .before in
+    let k2 = f3 .before .before .before .before .before in
+    let f2 = k2 .before .before .before .before .before in
+    let k1 = f2 .before .before in
+    let f1 = k1 .before .before .before .before .before in
+    let s = f1 .before .before .before .before .before .before in
+    let all = f3 .before .before .before .before .ranges-of in
+    let d = delays-right (s .args .top) (s .args .row .kind) (all .result) (s .pre .0) (all .ensures) _ (f3 .before .up-to .ensures) in
+    let l = latencies-right (s .args .top) (s .args .row .kind) (all .result) (s .pre .0) (all .ensures) in
+    let o = operands-right (s .args .top) (s .args .row .kind) (all .result) (s .pre .0) (all .ensures) in
+    let w1 = begun (k1 .before .kind-put .given .1) (f1 .put-field .ensures) in
+    let w2 = more w1 (k2 .before .mark-put .given .1) (f2 .put-field2 .ensures) in
+    let w3 = more w2 (k3 .before .delay-put .given .1) (rw (d .0, d .1) at (f3 .put-in .ensures)) in
+    let w4 = more w3 (k4 .before .latency-put .given .1) (rw (l .0, l .1) at (f4 .put-in2 .ensures)) in
+    last-one w4 (rw (o .0, o .1) at (f5 .put-in3 .ensures))
+
+same-length-5 : tie.Need-same-length-5
+same-length-5 c = wrote-wide (returns-5 c)
+
+pub put-head-spec : {M : Type 1} → statement M
+put-head-spec =
+    tie.close
+    (tie.spec
+    (λ c. search needs)
+    (λ c. search needs)
+    (λ c. search needs)
+    (λ c. search needs)
+    (λ c κs. search needs)
+    (λ c. search needs)
+    (λ c. search needs)
+    (λ c. search needs)
+    returns
+    put-field-requires-2
+    (λ c. search needs)
+    (λ c. search needs)
+    (λ c. search needs)
+    returns-2
+    (λ c κs. search needs)
+    (λ c κs. search needs)
+    put-in-requires
+    (λ c. search needs)
+    (λ c. search needs)
+    same-length-3
+    returns-3
+    put-in-requires-2
+    (λ c. search needs)
+    (λ c. search needs)
+    same-length-4
+    returns-4
+    put-in-requires-3
+    same-length-5
+    returns-5)

@@ -1,0 +1,2 @@
+pub mod Wroting
+pub mod Fields

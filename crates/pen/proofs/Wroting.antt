@@ -1,0 +1,145 @@
+-- Laws of what a part of the sheet writer has done.
+use Prim.Native.Nat.{ℕ, zero, suc, _+_, _-_, _*_, _<_, _≤_}
+use mathlib.Core.Path.{_≡_, refl, sym, ap, _∙_}
+use mathlib.Core.Bool.{Bool, true, false, _&&_}
+use mathlib.Core.List.{List, [], _∷_, _++_, map, append-nil, append-assoc, map-append}
+use native.Mathlib.Omega.{arith}
+use native.Mathlib.Nat.{add-zero}
+use native.Mathlib.Numerals.{add-one}
+use lib.Dec.{leb}
+use lib.ListN.{length, length-append}
+use borrow.Author.Tests.{lt-leb, le-leb, lt-ltb, le-ltb}
+use Rattle.maps.specs.Lists.{All, below, concat}
+use Rattle.maps.specs.Limits.{range}
+use Rattle.maps.specs.Number.{width, encoded}
+use Rattle.maps.specs.Code.{numberOf, placeOf}
+use Rattle.maps.specs.Form.{Rule, among, under, passes, ground}
+use Rattle.maps.specs.Write.{Entry, entry, Passes, First, valuesOf, spelled}
+use Rattle.maps.specs.declared.Refusal.{Refusal}
+use Rattle.maps.specs.declared.Refusal.the-variants.{Range, Operand}
+use Rattle.maps.proofs.Member.{All-join}
+use Rattle.maps.proofs.Numbers.{spelled-append, first-later, first-sooner, concat-snoc}
+use Rattle.bytes.specs.Put.{Put}
+use Rattle.bytes.proofs.Putting.{put-none, put-then}
+use Rattle.pen.specs.declared.Pen.{Pen}
+use Rattle.pen.specs.declared.Progress.{Progress}
+use Rattle.pen.specs.declared.Progress.the-variants.{Next, Refused}
+use Rattle.pen.specs.Wrote.{Room, Wrote, on, off}
+
+abbrev pub pen : (at number : ℕ) → Pen
+pen a n = record { at = a; number = n }
+
+-- a number that fails, and one that passes
+fails-here : (r : Rule) (x : ℕ) → passes r x ≡ false → First (entry r x ∷ []) (ground r) 0
+fails-here r x f = record { before = []; faulty = entry r x; after = []; listed = refl; place = refl; good = tt; fails = f; number = refl }
+
+and-false : (a : Bool) → (a && false) ≡ false
+and-false true = refl
+and-false false = refl
+
+module _ (bytes : List ℕ) (p : Pen) (low high x : ℕ) where
+  pub wrote-low : x < low → Wrote (entry (among (range low high)) x ∷ []) bytes bytes p (Refused (Range (p .number)))
+  wrote-low l = off 0 (fails-here (among (range low high)) x (rw (lt-leb low x l))) (sym (add-zero (p .number))) refl
+
+  pub wrote-high : high < x → Wrote (entry (among (range low high)) x ∷ []) bytes bytes p (Refused (Range (p .number)))
+  wrote-high l = off 0 (fails-here (among (range low high)) x (rw (lt-leb x high l) (and-false (leb low x)))) (sym (add-zero (p .number))) refl
+
+  pub wrote-among : (after : List ℕ) (next : ℕ) → low ≤ x → x ≤ high → Put width bytes after (p .at) next (encoded x)
+      → Wrote (entry (among (range low high)) x ∷ []) bytes after p (Next (pen next (p .number + 1)))
+  wrote-among after next l h w = on {next = pen next (p .number + 1)} (rw (le-leb low x l, le-leb x high h), tt) (rw (append-nil (encoded x)) w) refl
+
+module _ (bytes : List ℕ) (p : Pen) (own x : ℕ) where
+  pub wrote-own : own ≤ x → Wrote (entry (under own) x ∷ []) bytes bytes p (Refused (Operand (p .number)))
+  wrote-own l = off 0 (fails-here (under own) x (le-ltb x own l)) (sym (add-zero (p .number))) refl
+
+  pub wrote-under : (after : List ℕ) (next : ℕ) → x < own → Put width bytes after (p .at) next (encoded x)
+      → Wrote (entry (under own) x ∷ []) bytes after p (Next (pen next (p .number + 1)))
+  wrote-under after next l w = on {next = pen next (p .number + 1)} (lt-ltb x own l, tt) (rw (append-nil (encoded x)) w) refl
+
+-- nothing yet
+pub wrote-none : (bytes : List ℕ) (p : Pen) → Wrote [] bytes bytes p (Next p)
+wrote-none bytes p = on tt (put-none bytes (p .at)) (sym (add-zero (p .number)))
+
+-- one part after another
+wrote-stop : (es ds : List Entry) {a b : List ℕ} {p : Pen} {w : Refusal} → Wrote es a b p (Refused w) → Wrote (es ++ ds) a b p (Refused w)
+wrote-stop es ds (off j f q l) = off j (first-sooner es ds _ j f) q l
+
+pub wrote-then : (es ds : List Entry) {a b c : List ℕ} {p next : Pen} {r : Progress} → Wrote es a b p (Next next) → Wrote ds b c next r
+    → Wrote (es ++ ds) a c p r
+wrote-then es ds (on good f n) (on {next = last} more g m) =
+    on {next = last} (All-join Passes es ds good more)
+    (rw (map-append (λ (e : Entry). e .value) es ds, spelled-append (valuesOf es) (valuesOf ds)) (put-then _ (omega (arith, length-append es ds)) f g))
+    (omega (arith, length-append es ds))
+wrote-then es ds (on good f n) (off {w = w} j g q l) = off {w = w} (length es + j) (first-later es ds _ j good g) (omega arith) (l ∙ f .wide)
+
+-- the same of an answer that was looked at: the first part, one more, and the part that stopped before `rest`
+pub begun : {es : List Entry} {a b : List ℕ} {p next : Pen} {q : Progress} → q ≡ Next next → Wrote es a b p q → Wrote es a b p (Next next)
+begun e h = rw e at h
+
+pub more : {es ds : List Entry} {a b c : List ℕ} {p next last : Pen} {q : Progress} → Wrote es a b p (Next next) → q ≡ Next last → Wrote ds b c next q
+    → Wrote (es ++ ds) a c p (Next last)
+more {es} {ds} h e k = wrote-then es ds h (rw e at k)
+
+pub stopped : {es : List Entry} (rest : List Entry) {a b : List ℕ} {p : Pen} {q : Progress} {w : Refusal} → q ≡ Refused w → Wrote es a b p q
+    → Wrote (es ++ rest) a b p q
+stopped {es} rest e h = rw e (wrote-stop es rest (rw e at h))
+
+pub last-one : {es ds : List Entry} {a b c : List ℕ} {p next : Pen} {r : Progress} → Wrote es a b p (Next next) → Wrote ds b c next r
+    → Wrote (es ++ ds) a c p r
+last-one {es} {ds} h k = wrote-then es ds h k
+
+-- the buffer keeps its length
+pub wrote-wide : {es : List Entry} {a b : List ℕ} {p : Pen} {r : Progress} → Wrote es a b p r → length b ≡ length a
+wrote-wide (on good f n) = f .wide
+wrote-wide (off j f q l) = l
+
+-- how far n numbers at most have come
+pub record Come (n : ℕ) (a b : List ℕ) (p next : Pen) : Type 0 where
+  pub near : next .at ≤ p .at + width * n
+  pub counted : next .number ≤ p .number + n
+  pub wide : length b ≡ length a
+
+pub has-come : {es : List Entry} {a b : List ℕ} {p next : Pen} → Wrote es a b p (Next next) → Come (length es) a b p next
+has-come (on good f n) = record { near = f .near; counted = omega arith; wide = f .wide }
+
+pub come-none : (a : List ℕ) (p : Pen) → Come 0 a a p p
+come-none a p = record { near = omega arith; counted = omega arith; wide = refl }
+
+pub come-then : {n m : ℕ} (k : ℕ) {a b c : List ℕ} {p next last : Pen} → n + m ≤ k → Come n a b p next → Come m b c next last → Come k a c p last
+come-then k l f g =
+    record { near = omega (arith, f .near, g .near); counted = omega (arith, f .counted, g .counted); wide = g .wide ∙ f .wide }
+
+-- and what room is left after them
+pub room-left : {n : ℕ} (k : ℕ) {m : ℕ} {a b : List ℕ} {p next : Pen} → n + k ≤ m → Come n a b p next → Room m a p → Room k b next
+room-left k l c r = record { space = omega (arith, c .near, c .wide, r .space); numbers = omega (arith, c .counted, r .numbers) }
+
+pub room-less : (k : ℕ) {m : ℕ} {a : List ℕ} {p : Pen} → k ≤ m → Room m a p → Room k a p
+room-less k l r = record { space = omega (arith, r .space); numbers = omega (arith, r .numbers) }
+
+-- rows in order: one more of them, and the rest after a refusal
+rows-more : (f : ℕ → List Entry) (j : ℕ) {a b c : List ℕ} {p next : Pen} {r : Progress} → Wrote (concat (map f (below j))) a b p (Next next)
+    → Wrote (f j) b c next r → Wrote (concat (map f (below (suc j)))) a c p r
+rows-more f j h k = rw (concat-snoc f (below j) j) (wrote-then (concat (map f (below j))) (f j) h k)
+
+rows-split : (f : ℕ → List Entry) (k n : ℕ) → concat (map f (below (n + k))) ≡ concat (map f (below n)) ++ concat (map (λ j. f (n + j)) (below k))
+rows-split f zero n = rw (add-zero n) (sym (append-nil (concat (map f (below n)))))
+rows-split f (suc k) n =
+    let q : n + suc k ≡ suc (n + k) = omega arith in
+    rw (q, concat-snoc f (below (n + k)) (n + k), rows-split f k n, concat-snoc (λ j. f (n + j)) (below k) k)
+    (append-assoc (concat (map f (below n))) (concat (map (λ j. f (n + j)) (below k))) (f (n + k)))
+
+module _ (f : ℕ → List Entry) (j : ℕ) where
+  pub rows-next : {a b c : List ℕ} {p next last : Pen} {q : Progress} → q ≡ Next last → Wrote (concat (map f (below j))) a b p (Next next)
+      → Wrote (f j) b c next q → Wrote (concat (map f (below (j + 1)))) a c p (Next last)
+  rows-next e h k = rw (add-one j) (rows-more f j h (rw e at k))
+
+  pub rows-stop : (n : ℕ) → j < n → {a b c : List ℕ} {p next : Pen} {r : Progress} {w : Refusal} → r ≡ Refused w
+      → Wrote (concat (map f (below j))) a b p (Next next) → Wrote (f j) b c next r → Wrote (concat (map f (below n))) a c p r
+  rows-stop n l e h k =
+      let q : n ≡ suc j + (n - suc j) = omega arith in
+      rw (q, rows-split f (n - suc j) (suc j))
+      (stopped (concat (map (λ m. f (suc j + m)) (below (n - suc j)))) e (rows-more f j h k))
+
+  pub rows-all : (n : ℕ) → j ≤ n → n ≤ j → {a b : List ℕ} {p : Pen} {r : Progress} → Wrote (concat (map f (below j))) a b p r
+      → Wrote (concat (map f (below n))) a b p r
+  rows-all n l m h = let e : n ≡ j = omega arith in rw e h

@@ -1,0 +1,32 @@
+-- `put_field` meets its contract.
+use mathlib.Core.Path.{_≡_, subst}
+use mathlib.Core.List.{[], _∷_}
+use borrow.Author.Needs.{needs}
+use Rattle.maps.specs.Form.{among}
+use Rattle.maps.specs.Write.{entry}
+use Rattle.ranges.specs.Ranges.{spanMeant}
+use Rattle.ranges.specs.declared.Span.{Span}
+use Rattle.pen.specs.Wrote.{Wrote}
+use Rattle.pen.proofs.Fields.{field-small}
+use Rattle.pen.proofs.put_field.Statement.{statement}
+use Rattle.pen.proofs.put_field.Tie as tie
+
+put-in-requires : tie.Need-put-in-requires
+put-in-requires c κs =
+    let s = c .before .before .before in
+    (field-small (s .args .field) (c .before .range-of .ensures), s .pre)
+
+returns : tie.Need-returns
+returns c =
+    let w = c .before .before .put-in in
+    let s = c .before .before .before .before .before .before in
+    rw (c .before .before .before .before .range-of .ensures) at (w .ensures)
+
+pub put-field-spec : {M : Type 1} → statement M
+put-field-spec =
+    tie.close
+    (tie.spec
+    (λ c κs. search needs)
+    put-in-requires
+    (λ c. search needs)
+    returns)

@@ -1,0 +1,51 @@
+-- What a part of the sheet writer has done: written numbers that pass, or stopped at the first that does not.
+use Prim.Native.Nat.{ℕ, _+_, _*_, _≤_}
+use mathlib.Core.Path.{_≡_}
+use mathlib.Core.List.{List}
+use lib.ListN.{length}
+use Rattle.maps.specs.Lists.{All}
+use Rattle.maps.specs.Limits.{sizeRange, countRange, operandsMost}
+use Rattle.maps.specs.Number.{width}
+use Rattle.maps.specs.Code.{numberOf, placeOf}
+use Rattle.maps.specs.Write.{Entry, Passes, First, valuesOf, spelled}
+use Rattle.maps.specs.declared.Refusal.{Refusal}
+use Rattle.bytes.specs.Put.{Put}
+use Rattle.pen.specs.declared.Pen.{Pen}
+use Rattle.pen.specs.declared.Progress.{Progress}
+use Rattle.pen.specs.declared.Progress.the-variants.{Next, Refused}
+
+-- how many numbers the header has, a node before its operand ids, a node at most, a difference, and a sheet at most
+abbrev pub headerMost : ℕ
+headerMost = 5
+
+abbrev pub headMost : ℕ
+headMost = 5
+
+abbrev pub nodeMost : ℕ
+nodeMost = headMost + operandsMost
+
+abbrev pub differenceMost : ℕ
+differenceMost = 3
+
+abbrev pub numbersMost : ℕ
+numbersMost = headerMost + sizeRange .high * nodeMost + countRange .high * differenceMost
+
+-- the bytes of so many numbers, each as long as can be
+abbrev pub sheetRoom : ℕ
+sheetRoom = width * numbersMost
+
+-- where writing starts
+abbrev pub start : Pen
+start = record { at = 0; number = 0 }
+
+-- there is room for n numbers more
+pub record Room (n : ℕ) (bytes : List ℕ) (pen : Pen) : Type 0 where
+  pub space : pen .at + width * n ≤ length bytes
+  pub numbers : pen .number + n ≤ numbersMost
+
+-- the numbers es after those before the pen: all pass and stand in their spelling, or the first that does not is named
+pub data Wrote (es : List Entry) (before after : List ℕ) (pen : Pen) : Progress → Type 0 where
+  on : {next : Pen} → All Passes es → Put (width * length es) before after (pen .at) (next .at) (spelled (valuesOf es))
+      → next .number ≡ pen .number + length es → Wrote es before after pen (Next next)
+  off : {w : Refusal} (j : ℕ) → First es (numberOf w) j → placeOf w ≡ pen .number + j → length after ≡ length before
+      → Wrote es before after pen (Refused w)

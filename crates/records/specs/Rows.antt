@@ -1,0 +1,77 @@
+-- The records as C hands them over: flat rows of 32-bit numbers.
+use Prim.Native.Nat.{ℕ, zero, suc, _+_, _-_, _*_, _/_, min}
+use mathlib.Core.Bool.{cond}
+use mathlib.Core.List.{List, map}
+use lib.Dec.{ltb}
+use lib.IntN.{ℤ, pos, negsuc}
+use lib.ListN.{length, getD, take, drop}
+use Rattle.maps.specs.Lists.{below}
+use Rattle.maps.specs.Records.{NodeRecord, DifferenceRecord, Records}
+use Rattle.records.specs.declared.NodeRow.{NodeRow}
+use Rattle.records.specs.declared.DifferenceRow.{DifferenceRow}
+
+-- where the row of a node begins, and that of a difference
+abbrev pub nodePlace : ℕ → ℕ
+nodePlace v = v * 5
+
+abbrev pub differencePlace : ℕ → ℕ
+differencePlace j = j * 3
+
+-- how many whole rows there are
+abbrev pub rowsIn : (place : ℕ → ℕ) → List ℕ → ℕ
+rowsIn place rows = length rows / place 1
+
+-- kind, output mark, d, lat, where the operands end
+abbrev pub nodeRow : List ℕ → ℕ → NodeRow
+nodeRow nodes v =
+    record {
+      kind = getD nodes (nodePlace v) 0;
+      output = getD nodes (nodePlace v + 1) 0;
+      delay = getD nodes (nodePlace v + 2) 0;
+      latency = getD nodes (nodePlace v + 3) 0;
+      end = getD nodes (nodePlace v + 4) 0;
+    }
+
+-- u, v, w
+abbrev pub differenceRow : List ℕ → ℕ → DifferenceRow
+differenceRow differences j =
+    record {
+      from = getD differences (differencePlace j) 0;
+      to = getD differences (differencePlace j + 1) 0;
+      weight = getD differences (differencePlace j + 2) 0;
+    }
+
+-- the signed number of 32 bits
+abbrev pub signed : ℕ → ℤ
+signed bits = cond (ltb bits 2147483648) (pos bits) (negsuc (4294967295 - bits))
+
+abbrev pub differenceIn : (differences : List ℕ) → ℕ → DifferenceRecord
+differenceIn differences j =
+    let row = differenceRow differences j in
+    record { from = row .from; to = row .to; weight = signed (row .weight) }
+
+module _ (nodes operands : List ℕ) where
+  -- where the operands of the nodes before v end: those of node v are the ones "from the end of the node before to its own end", and none past the
+  -- array
+  abbrev pub endOf : ℕ → ℕ
+  endOf zero = 0
+  endOf (suc v) = min (nodeRow nodes v .end) (length operands)
+
+  abbrev pub operandsIn : ℕ → List ℕ
+  operandsIn v = take (endOf (suc v) - endOf v) (drop (endOf v) operands)
+
+  abbrev pub nodeIn : ℕ → NodeRecord
+  nodeIn v =
+      let row = nodeRow nodes v in
+      record { kind = row .kind; mark = row .output; delay = row .delay; latency = row .latency; operands = operandsIn v }
+
+-- K, T, H and the rows as records
+abbrev pub recordsIn : (k t h : ℕ) → (nodes operands differences : List ℕ) → Records
+recordsIn k t h nodes operands differences =
+    record {
+      leaves = k;
+      top = t;
+      horizon = h;
+      nodes = map (nodeIn nodes operands) (below (rowsIn nodePlace nodes));
+      differences = map (differenceIn differences) (below (rowsIn differencePlace differences));
+    }

@@ -1,0 +1,87 @@
+// The records as C hands them over: rows of five numbers for the nodes and of three for the differences, and one array of operand ids.
+ghost use mathlib.Core.Path.{_≡_};
+ghost use Prim.Native.Nat.{_+_, _/_, _≤_};
+ghost use lib.ListN.{length};
+ghost use Rattle.maps.specs.Write.{codeOfWeight};
+ghost use Rattle.records.specs.Rows.{nodePlace, differencePlace, rowsIn, nodeRow, differenceRow, endOf, signed};
+
+// A node without its operands, and where these end in the array of operand ids.
+pub struct NodeRow {
+    pub kind: u32,
+    pub output: u32,
+    pub delay: u32,
+    pub latency: u32,
+    pub end: u32,
+}
+
+// A difference; w as the 32 bits of a signed number.
+pub struct DifferenceRow {
+    pub from: u32,
+    pub to: u32,
+    pub weight: u32,
+}
+
+// How many nodes there are.
+pub fn node_count(nodes: &[u32]) -> usize
+    ensures { λ r. ⌜ r ≡ rowsIn nodePlace (now (nodes .entry)) ⌝ }
+{
+    nodes.len() / 5
+}
+
+// How many differences there are.
+pub fn difference_count(differences: &[u32]) -> usize
+    ensures { λ r. ⌜ r ≡ rowsIn differencePlace (now (differences .entry)) ⌝ }
+{
+    differences.len() / 3
+}
+
+// The row of node v.
+pub fn node_at(nodes: &[u32], v: usize) -> NodeRow
+    requires { ⌜ nodePlace (v + 1) ≤ length (now nodes) ⌝ }
+    ensures { λ r. ⌜ r ≡ nodeRow (now (nodes .entry)) v ⌝ }
+{
+    let row = v * 5;
+    NodeRow {
+        kind: nodes[row],
+        output: nodes[row + 1],
+        delay: nodes[row + 2],
+        latency: nodes[row + 3],
+        end: nodes[row + 4],
+    }
+}
+
+// The row of difference j.
+pub fn difference_at(differences: &[u32], j: usize) -> DifferenceRow
+    requires { ⌜ differencePlace (j + 1) ≤ length (now differences) ⌝ }
+    ensures { λ r. ⌜ r ≡ differenceRow (now (differences .entry)) j ⌝ }
+{
+    let row = j * 3;
+    DifferenceRow {
+        from: differences[row],
+        to: differences[row + 1],
+        weight: differences[row + 2],
+    }
+}
+
+// Where the operands of node v end: not past the array.
+pub fn end_of(nodes: &[u32], operands: &[u32], v: usize) -> usize
+    requires { ⌜ nodePlace (v + 1) ≤ length (now nodes) ⌝ }
+    ensures { λ r. ⌜ r ≡ endOf (now (nodes .entry)) (now (operands .entry)) (v + 1) ⌝ }
+{
+    let row = node_at(nodes, v);
+    let end = row.end as usize;
+    if operands.len() < end {
+        return operands.len();
+    }
+    end
+}
+
+// The code of the w with these bits: 2w, or -2w - 1 where w is negative.
+pub fn code_of(bits: u32) -> u32
+    ensures { λ r. ⌜ r ≡ codeOfWeight (signed bits) ⌝ }
+{
+    if bits < 2147483648 {
+        return 2 * bits;
+    }
+    2 * (4294967295 - bits) + 1
+}
