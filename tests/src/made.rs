@@ -70,6 +70,16 @@ pub fn sheet(random: &mut Random, most: u32) -> Sheet {
     Sheet { leaves: any(random, K), top, horizon: any(random, H), nodes, differences }
 }
 
+/// A sheet within the ranges of nearly `most` nodes, a tenth fewer at the least.
+pub fn nearly(random: &mut Random, most: u32) -> Sheet {
+    loop {
+        let whole = sheet(random, most);
+        if whole.nodes.len() as u32 >= most * 9 / 10 {
+            return whole;
+        }
+    }
+}
+
 /// The bytes of a sheet with one thing wrong: a number, a byte, or the length.
 pub fn damaged(random: &mut Random, sheet: &Sheet) -> Vec<u8> {
     let mut all = numbers(sheet);

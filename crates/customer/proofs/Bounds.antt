@@ -1,14 +1,12 @@
 -- Every number is one of 0 to 8, and no plan is longer than `planMost`.
-use Prim.Native.Nat.{ℕ, _+_, _*_, _/_, _%_, _≤_, _<_}
-use mathlib.Core.Path.{_≡_, refl}
+use Prim.Native.Nat.{ℕ, _-_, _*_, _≤_, _<_}
+use mathlib.Core.Path.{_≡_, refl, ap}
 use mathlib.Core.Bool.{Bool, true, false, cond, _&&_}
 use mathlib.Core.List.{List, [], _∷_, map, List·Memᴰ}
 use mathlib.Core.Logic.{_⊎_, inl, inr}
 use native.Mathlib.Omega.{arith}
 use native.Mathlib.Nat.{suc-mul}
-use lib.Dec.{ltb}
 use lib.ListN.{length, length-append, length-map}
-use borrow.Author.Tests.{lt-ltb}
 use Rattle.maps.specs.Lists.{All, mem, below, concat}
 use Rattle.maps.specs.Label.{Label}
 use Rattle.maps.specs.Sheet.{Sheet, size}
@@ -16,31 +14,25 @@ use Rattle.maps.specs.Cut.{logicNode}
 use Rattle.maps.specs.Legal.{Legal, latencyOfAll}
 use Rattle.maps.specs.Least.{at}
 use Rattle.maps.specs.Cover.{chosenCut, carryingCuts, used}
-use Rattle.maps.specs.Number.{encoded, encodedUpTo}
+use Rattle.maps.specs.Number.{Bytes, width, encoded}
 use Rattle.maps.specs.Plan.{leavesOf, row, plan}
 use Rattle.maps.specs.WellFormed.{WellFormed}
 use Rattle.maps.proofs.Member.{All-of, everywhere, below-out}
 use Rattle.maps.proofs.Over.{length-over}
 use Rattle.maps.proofs.Chosen.{best-in, carrying-sound}
 use Rattle.maps.specs.Outcome.{accepted, refusal, outcome, outcomeNumber}
-use Rattle.maps.specs.Number.{Bytes}
+use Rattle.maps.proofs.Spelling.{written-length, encoded-small}
 use Rattle.maps.proofs.Refusing.{refuses-number}
-use Rattle.customer.specs.Bounds.{rowMost, planMost, Bounded}
+use Rattle.customer.specs.Bounds.{numberMost, smallMost, rowMost, planMost, Bounded}
 use Rattle.customer.specs.Demands.{Ground, unread, uncut, tooLate, tooShort, planned}
 use Rattle.customer.proofs.Demands.{ground-of}
 
--- a number has at most two bytes, and one below 128 has one
-number-length : (n : ℕ) → length (encoded n) ≤ 2
-unfolding encodedUpTo
-number-length n = go (ltb n 128)
-  where
-    go : (b : Bool) → length (cond b (n ∷ []) ((128 + n % 128) ∷ (n / 128) ∷ [])) ≤ 2
-    go true = omega arith
-    go false = omega arith
+-- how long a number is, and one below 128
+number-length : (n : ℕ) → length (encoded n) ≤ numberMost
+number-length n = written-length (width - 1) n .1
 
-small-length : (n : ℕ) → n < 128 → length (encoded n) ≤ 1
-unfolding encodedUpTo
-small-length n l = rw (lt-ltb n 128 l) (omega arith)
+small-length : (n : ℕ) → n < 128 → length (encoded n) ≤ smallMost
+small-length n l = omega (arith, ap length (encoded-small (width - 1) n l))
 
 -- lists of at most b elements each, one after the other
 concat-length : {A B : Type 0} (f : A → List B) (b : ℕ) (xs : List A) → All (λ x. length (f x) ≤ b) xs → length (concat (map f xs)) ≤ length (map f xs) * b

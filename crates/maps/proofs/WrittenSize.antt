@@ -14,7 +14,7 @@ use Rattle.maps.specs.Records.{NodeRecord, DifferenceRecord, Records, sh
 use Rattle.maps.specs.Write.{Entry, entry, headerNumbers, headNumbers, nodeNumbers, differenceNumbers, eachNumbers, numbers, valuesOf, spelled, Passes, writing}
 use Rattle.maps.proofs.Member.{All-join, All-split}
 use Rattle.maps.proofs.Spelling.{written-bytes, written-length, encoded-small}
-use Rattle.maps.proofs.Parse.{in-range}
+use Rattle.maps.proofs.Parse.{in-range, few}
 use Rattle.maps.proofs.Along.{along-sheet, along-end}
 use Rattle.maps.proofs.Spellable.{leads-small}
 use Rattle.maps.proofs.Numbers.{spelled-append, spelled-most}
@@ -42,12 +42,11 @@ sheetMost = 1 + 1 + width + width + width + sizeRange .high * nodeMost + countRa
 small-length : (n : ℕ) → n < 128 → length (encoded n) ≡ 1
 small-length n l = rw (encoded-small (width - 1) n l) refl
 
--- d and the operand count of a node of any kind
-few : (top kind d count : ℕ) → top ≤ topRange .high → d ≤ rangesOf top kind .delay .high → count ≤ rangesOf top kind .operands .high
-    → (d ≤ topRange .high) × (count ≤ operandsMost)
-few top zero d count l p q = omega arith
-few top (suc zero) d count l p q = omega arith
-few top (suc (suc k)) d count l p q = omega arith
+-- d of a node of any kind
+low : (top kind d : ℕ) → top ≤ topRange .high → d ≤ rangesOf top kind .delay .high → d ≤ topRange .high
+low top zero d l p = omega arith
+low top (suc zero) d l p = omega arith
+low top (suc (suc k)) d l p = omega arith
 
 abbrev bytesOf : List Entry → List ℕ
 bytesOf es = spelled (valuesOf es)
@@ -65,13 +64,14 @@ head-bytes top v l p =
     let m = in-range markRange (v .mark) (p .1 .0) in
     let d = in-range (rangesOf top (v .kind) .delay) (v .delay) (p .1 .1 .0) in
     let c = in-range (rangesOf top (v .kind) .operands) (length (v .operands)) (p .1 .1 .1 .1 .0) in
-    let f = few top (v .kind) (v .delay) (length (v .operands)) l (d .most) (c .most) in
+    let f = few top (v .kind) (c .most) in
+    let low-delay = low top (v .kind) (v .delay) l (d .most) in
     let kind = small-length (v .kind) (omega arith) in
     let mark = small-length (v .mark) (omega arith) in
     let delay = small-length (v .delay) (omega arith) in
     let count = small-length (length (v .operands)) (omega arith) in
     let lat = written-length (width - 1) (v .latency) in
-    (simp length-append (omega arith), f .1)
+    (simp length-append (omega arith), f)
 
 node-bytes : (top own : ℕ) (v : NodeRecord) → top ≤ topRange .high → All Passes (nodeNumbers top own v) → length (bytesOf (nodeNumbers top own v)) ≤ nodeMost
 node-bytes top own v l p =

@@ -10,7 +10,7 @@ use Rattle.maps.specs.Lists.{All}
 use Rattle.maps.specs.Limits.{kindRange, markRange, rangesOf, operandsMost}
 use Rattle.maps.specs.Form.{among, under}
 use Rattle.maps.specs.Write.{Entry, entry, Passes, nodeNumbers}
-use Rattle.maps.proofs.Parse.{in-range}
+use Rattle.maps.proofs.Parse.{in-range, few}
 use Rattle.records.specs.Rows.{nodeRow, endOf, operandsIn, nodeIn}
 use Rattle.pen.specs.Wrote.{nodeMost, Wrote, on}
 use Rattle.records.specs.declared.NodeRow.{NodeRow}
@@ -29,11 +29,6 @@ headOf top row count =
     ∷ []
 
 -- where they pass there are few operands
-few : (top kind : ℕ) {n : ℕ} → n ≤ rangesOf top kind .operands .high → n ≤ operandsMost
-few top zero l = omega arith
-few top (suc zero) l = l
-few top (suc (suc k)) l = l
-
 pub head-few : (top count : ℕ) (row : NodeRow) {a b : List ℕ} {p next : Pen} → Wrote (headOf top row count) a b p (Next next) → count ≤ operandsMost
 head-few top count row (on good f n) =
     few top (row .kind) (in-range (rangesOf top (row .kind) .operands) count (good .1 .1 .1 .1 .0) .most)

@@ -1,6 +1,6 @@
 //! Times the proved reader beside the independent one, on sheets of growing size and on the greatest.
 use maps_tests::library::{read, Tables};
-use maps_tests::made::{greatest, numbers, sheet, spelled};
+use maps_tests::made::{greatest, numbers, nearly, spelled};
 use maps_tests::random::Random;
 use maps_tests::reader;
 use std::hint::black_box;
@@ -33,10 +33,7 @@ fn row(name: &str, bytes: &[u8]) {
 fn main() {
     let mut random = Random::new(7);
     for most in [16, 64, 128, 256] {
-        let mut whole = sheet(&mut random, most);
-        while (whole.nodes.len() as u32) < most * 9 / 10 {
-            whole = sheet(&mut random, most);
-        }
+        let whole = nearly(&mut random, most);
         row(&format!("up to {most} nodes"), &spelled(&numbers(&whole)));
     }
     let bytes = spelled(&numbers(&greatest(&mut random)));

@@ -2,7 +2,7 @@
 //! greatest.
 #![cfg_attr(not(planner), allow(dead_code, unused_imports))]
 use maps_tests::library::{read, Tables};
-use maps_tests::made::{greatest, numbers, sheet, spelled};
+use maps_tests::made::{greatest, numbers, nearly, spelled};
 use maps_tests::random::Random;
 use maps_tests::reader::Sheet;
 use maps_tests::writer::{outcome, Records, Rows};
@@ -64,10 +64,7 @@ fn row(name: &str, _: &Sheet, _: usize) {
 fn main() {
     let mut random = Random::new(7);
     for most in [16, 64, 128, 256] {
-        let mut whole = sheet(&mut random, most);
-        while (whole.nodes.len() as u32) < most * 9 / 10 {
-            whole = sheet(&mut random, most);
-        }
+        let whole = nearly(&mut random, most);
         row(&format!("up to {most} nodes"), &whole, AMPLE);
     }
     let mut whole = greatest(&mut random);
