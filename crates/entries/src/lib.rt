@@ -1,10 +1,8 @@
 // The parts of a sheet that have a fixed count of numbers: the header, a node before its operand ids, a difference.
-ghost use mathlib.Core.List.{[], _∷_};
 ghost use Prim.Native.Nat.{_+_, _<_, _≤_};
 ghost use lib.ListN.{length};
-ghost use Rattle.maps.specs.Limits.{leavesRange, topRange, horizonRange, sizeRange, countRange, kindRange, markRange, rangesOf};
-ghost use Rattle.maps.specs.Form.{among};
-ghost use Rattle.maps.specs.Write.{entry, differenceNumbers};
+ghost use Rattle.maps.specs.Limits.{topRange, sizeRange};
+ghost use Rattle.maps.specs.Write.{headerEntries, headEntries, differenceNumbers};
 ghost use Rattle.records.specs.Rows.{differencePlace, differenceIn};
 ghost use Rattle.pen.specs.Wrote.{headerMost, headMost, differenceMost, Room, Wrote};
 use pen::Pen;
@@ -29,8 +27,7 @@ pub fn put_header(
     pen: Pen,
 ) -> Progress
     requires { ⌜ Room headerMost (now bytes) pen ⌝ }
-    ensures { λ r. ⌜ Wrote (entry (among leavesRange) leaves ∷ entry (among topRange) top ∷ entry (among horizonRange) horizon
-        ∷ entry (among sizeRange) n ∷ entry (among countRange) m ∷ []) (now (bytes .entry)) (now (bytes .exit)) pen r ⌝ }
+    ensures { λ r. ⌜ Wrote (headerEntries leaves top horizon n m) (now (bytes .entry)) (now (bytes .exit)) pen r ⌝ }
 {
     let leaves_put = put_field(bytes, pen, Field::Leaves, leaves as u64);
     let Progress::Next(p1) = leaves_put else {
@@ -54,9 +51,7 @@ pub fn put_header(
 // Writes the numbers of a node before its operand ids, of which there are `count`.
 pub fn put_head(row: NodeRow, top: u32, count: usize, bytes: &mut [u8], pen: Pen) -> Progress
     requires { ⌜ (top ≤ topRange .high) × Room headMost (now bytes) pen ⌝ }
-    ensures { λ r. ⌜ Wrote (entry (among kindRange) (row .kind) ∷ entry (among markRange) (row .output)
-        ∷ entry (among (rangesOf top (row .kind) .delay)) (row .delay) ∷ entry (among (rangesOf top (row .kind) .latency)) (row .latency)
-        ∷ entry (among (rangesOf top (row .kind) .operands)) count ∷ []) (now (bytes .entry)) (now (bytes .exit)) pen r ⌝ }
+    ensures { λ r. ⌜ Wrote (headEntries top (row .kind) (row .output) (row .delay) (row .latency) count) (now (bytes .entry)) (now (bytes .exit)) pen r ⌝ }
 {
     let kind = row.kind;
     let mark = row.output as u64;

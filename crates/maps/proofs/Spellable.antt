@@ -37,7 +37,7 @@ fits : (r : Range) (x : ℕ) → r .high < 128 ^ width → passes (among r) x �
 fits r x l p = omega (arith, in-range r x p .most)
 
 -- a node's ranges, of any kind
-ranges-fit : (top kind : ℕ) → top ≤ topRange .high
+pub ranges-fit : (top kind : ℕ) → top ≤ topRange .high
     → (rangesOf top kind .delay .high < 128 ^ width) × (rangesOf top kind .latency .high < 128 ^ width) × (rangesOf top kind .operands .high < 128 ^ width)
 ranges-fit top zero l = omega arith
 ranges-fit top (suc zero) l = omega arith

@@ -21,25 +21,32 @@ pub record Entry : Type 0 where
 abbrev pub entry : Rule → ℕ → Entry
 entry r x = record { rule = r; value = x }
 
--- "n, m and operand counts are how many were given"
-abbrev pub headerNumbers : Records → List Entry
-headerNumbers R =
-    entry (among leavesRange) (R .leaves)
-    ∷ entry (among topRange) (R .top)
-    ∷ entry (among horizonRange) (R .horizon)
-    ∷ entry (among sizeRange) (length (R .nodes))
-    ∷ entry (among countRange) (length (R .differences))
+-- K, T, H, n, m
+abbrev pub headerEntries : (leaves top horizon nodes differences : ℕ) → List Entry
+headerEntries k t h n m =
+    entry (among leavesRange) k
+    ∷ entry (among topRange) t
+    ∷ entry (among horizonRange) h
+    ∷ entry (among sizeRange) n
+    ∷ entry (among countRange) m
     ∷ []
 
+-- "n, m and operand counts are how many were given"
+abbrev pub headerNumbers : Records → List Entry
+headerNumbers R = headerEntries (R .leaves) (R .top) (R .horizon) (length (R .nodes)) (length (R .differences))
+
 -- "kind .., output mark .., d, lat, operand count"
-abbrev pub headNumbers : (top : ℕ) → NodeRecord → List Entry
-headNumbers top v =
-    entry (among kindRange) (v .kind)
-    ∷ entry (among markRange) (v .mark)
-    ∷ entry (among (rangesOf top (v .kind) .delay)) (v .delay)
-    ∷ entry (among (rangesOf top (v .kind) .latency)) (v .latency)
-    ∷ entry (among (rangesOf top (v .kind) .operands)) (length (v .operands))
+abbrev pub headEntries : (top kind mark delay latency count : ℕ) → List Entry
+headEntries top kind mark d lat count =
+    entry (among kindRange) kind
+    ∷ entry (among markRange) mark
+    ∷ entry (among (rangesOf top kind .delay)) d
+    ∷ entry (among (rangesOf top kind .latency)) lat
+    ∷ entry (among (rangesOf top kind .operands)) count
     ∷ []
+
+abbrev pub headNumbers : (top : ℕ) → NodeRecord → List Entry
+headNumbers top v = headEntries top (v .kind) (v .mark) (v .delay) (v .latency) (length (v .operands))
 
 -- ".. operand ids" of the node `own`
 abbrev pub nodeNumbers : (top own : ℕ) → NodeRecord → List Entry

@@ -1,15 +1,15 @@
 -- The numbers of a node from its row and the array of operand ids.
 use Prim.Native.Nat.{ℕ, zero, suc, _+_, _-_, _≤_, min}
 use mathlib.Core.Path.{_≡_, refl, sym, ap, _∙_}
-use mathlib.Core.List.{List, [], _∷_, _++_, map}
+use mathlib.Core.List.{List, _++_, map}
 use native.Mathlib.Omega.{arith}
 use native.Mathlib.Numerals.{add-one}
 use lib.ListN.{length, take, drop, length-drop, length-map}
 use lib.Seq.{length-take-le}
 use Rattle.maps.specs.Lists.{All}
-use Rattle.maps.specs.Limits.{kindRange, markRange, rangesOf, operandsMost}
-use Rattle.maps.specs.Form.{among, under}
-use Rattle.maps.specs.Write.{Entry, entry, Passes, nodeNumbers}
+use Rattle.maps.specs.Limits.{rangesOf, operandsMost}
+use Rattle.maps.specs.Form.{under}
+use Rattle.maps.specs.Write.{Entry, entry, headEntries, nodeNumbers, Passes}
 use Rattle.maps.proofs.Parse.{in-range, few}
 use Rattle.records.specs.Rows.{nodeRow, endOf, operandsIn, nodeIn}
 use Rattle.pen.specs.Wrote.{nodeMost, Wrote, on}
@@ -20,13 +20,7 @@ use Rattle.pen.proofs.Wroting.{Come}
 
 -- the numbers of a node before its operand ids, of which there are `count`
 abbrev pub headOf : (top : ℕ) → NodeRow → (count : ℕ) → List Entry
-headOf top row count =
-    entry (among kindRange) (row .kind)
-    ∷ entry (among markRange) (row .output)
-    ∷ entry (among (rangesOf top (row .kind) .delay)) (row .delay)
-    ∷ entry (among (rangesOf top (row .kind) .latency)) (row .latency)
-    ∷ entry (among (rangesOf top (row .kind) .operands)) count
-    ∷ []
+headOf top row count = headEntries top (row .kind) (row .output) (row .delay) (row .latency) count
 
 -- where they pass there are few operands
 pub head-few : (top count : ℕ) (row : NodeRow) {a b : List ℕ} {p next : Pen} → Wrote (headOf top row count) a b p (Next next) → count ≤ operandsMost

@@ -5,12 +5,11 @@ use mathlib.Core.List.{List, [], _∷_, _++_, map}
 use native.Mathlib.Omega.{arith}
 use lib.ListN.{length, take, length-append, length-map, length-take}
 use Rattle.maps.specs.Lists.{All, below, concat}
-use Rattle.maps.specs.Limits.{leavesRange, topRange, horizonRange, sizeRange, countRange}
+use Rattle.maps.specs.Limits.{topRange, sizeRange, countRange}
 use Rattle.maps.specs.Code.{numberOf, placeOf}
-use Rattle.maps.specs.Form.{among}
 use Rattle.maps.specs.Outcome.{refusal, within}
 use Rattle.maps.specs.Records.{Records}
-use Rattle.maps.specs.Write.{Entry, entry, Passes, numbers, nodeNumbers, differenceNumbers, valuesOf, spelled, writing}
+use Rattle.maps.specs.Write.{Entry, headerEntries, Passes, numbers, nodeNumbers, differenceNumbers, valuesOf, spelled, writing}
 use Rattle.maps.specs.declared.Refusal.{Refusal}
 use Rattle.maps.proofs.Over.{length-below}
 use Rattle.maps.proofs.Member.{All-split}
@@ -24,19 +23,14 @@ use Rattle.pen.specs.declared.Progress.the-variants.{Next, Refused}
 use Rattle.pen.proofs.Wroting.{Come}
 use Rattle.writer.proofs.NodeRows.{node-most}
 
--- K, T, H, n, m
-abbrev pub headerOf : (k t h n m : ℕ) → List Entry
-headerOf k t h n m =
-    entry (among leavesRange) k ∷ entry (among topRange) t ∷ entry (among horizonRange) h ∷ entry (among sizeRange) n ∷ entry (among countRange) m ∷ []
-
--- where they pass
+-- a header whose numbers pass
 pub record Limited (t n m : ℕ) : Type 0 where
   pub top : t ≤ topRange .high
   pub some : 1 ≤ n
   pub nodes : n ≤ sizeRange .high
   pub differences : m ≤ countRange .high
 
-pub limited : (k t h n m : ℕ) {a b : List ℕ} {p next : Pen} → Wrote (headerOf k t h n m) a b p (Next next) → Limited t n m
+pub limited : (k t h n m : ℕ) {a b : List ℕ} {p next : Pen} → Wrote (headerEntries k t h n m) a b p (Next next) → Limited t n m
 limited k t h n m (on good f e) =
     let size = in-range sizeRange n (good .1 .1 .1 .0) in
     record { top = in-range topRange t (good .1 .0) .most; some = size .least; nodes = size .most; differences = in-range countRange m (good .1 .1 .1 .1 .0) .most }
@@ -75,7 +69,7 @@ count-rows row n = length-map (below n) row ∙ length-below n
 -- the numbers of the records in rows, part by part
 pub numbers-in : (k t h : ℕ) (nodes operands differences : List ℕ) (n m : ℕ) → n ≡ rowsIn nodePlace nodes → m ≡ rowsIn differencePlace differences
     → numbers (recordsIn k t h nodes operands differences)
-    ≡ headerOf k t h n m ++ (concat (map (nodesOf t nodes operands) (below n)) ++ concat (map (differencesOf n differences) (below m)))
+    ≡ headerEntries k t h n m ++ (concat (map (nodesOf t nodes operands) (below n)) ++ concat (map (differencesOf n differences) (below m)))
 unfolding numbers
 numbers-in k t h nodes operands differences n m en em =
     rw (

@@ -6,7 +6,7 @@ use Rattle.maps.specs.Limits.{markRange, rangesOf}
 use Rattle.maps.specs.Form.{among}
 use Rattle.maps.specs.Write.{entry}
 use Rattle.ranges.proofs.RangeLaws.{delays-right, latencies-right, operands-right}
-use Rattle.pen.proofs.Fields.{ranges-small}
+use Rattle.maps.proofs.Spellable.{ranges-fit}
 use Rattle.pen.proofs.Wroting.{begun, more, stopped, last-one, wrote-wide, has-come, room-left, room-less}
 use Rattle.entries.proofs.put_head.Statement.{statement}
 use Rattle.entries.proofs.put_head.Tie as tie
@@ -43,7 +43,7 @@ put-in-requires c κs =
     let s = f1 .before .before .before .before .before .before in
     let all = c .before .before .before .ranges-of in
     let d = delays-right (s .args .top) (s .args .row .kind) (all .result) (s .pre .0) (all .ensures) _ (c .up-to .ensures) in
-    let small = ranges-small (s .args .top) (s .args .row .kind) (s .pre .0) in
+    let small = ranges-fit (s .args .top) (s .args .row .kind) (s .pre .0) in
     let w1 = begun (k1 .before .kind-put .given .1) (f1 .put-field .ensures) in
     let w2 = more w1 (k2 .before .mark-put .given .1) (f2 .put-field2 .ensures) in
     (omega (arith, d .1, small .0), room-left 1 (omega arith) (has-come w2) (s .pre .1))
@@ -77,7 +77,7 @@ put-in-requires-2 c κs =
     let all = f3 .before .before .before .before .ranges-of in
     let d = delays-right (s .args .top) (s .args .row .kind) (all .result) (s .pre .0) (all .ensures) _ (f3 .before .up-to .ensures) in
     let l = latencies-right (s .args .top) (s .args .row .kind) (all .result) (s .pre .0) (all .ensures) in
-    let small = ranges-small (s .args .top) (s .args .row .kind) (s .pre .0) in
+    let small = ranges-fit (s .args .top) (s .args .row .kind) (s .pre .0) in
     let w1 = begun (k1 .before .kind-put .given .1) (f1 .put-field .ensures) in
     let w2 = more w1 (k2 .before .mark-put .given .1) (f2 .put-field2 .ensures) in
     let w3 = more w2 (k3 .before .delay-put .given .1) (rw (d .0, d .1) at (f3 .put-in .ensures)) in
@@ -119,7 +119,7 @@ put-in-requires-3 c κs =
     let d = delays-right (s .args .top) (s .args .row .kind) (all .result) (s .pre .0) (all .ensures) _ (f3 .before .up-to .ensures) in
     let l = latencies-right (s .args .top) (s .args .row .kind) (all .result) (s .pre .0) (all .ensures) in
     let o = operands-right (s .args .top) (s .args .row .kind) (all .result) (s .pre .0) (all .ensures) in
-    let small = ranges-small (s .args .top) (s .args .row .kind) (s .pre .0) in
+    let small = ranges-fit (s .args .top) (s .args .row .kind) (s .pre .0) in
     let w1 = begun (k1 .before .kind-put .given .1) (f1 .put-field .ensures) in
     let w2 = more w1 (k2 .before .mark-put .given .1) (f2 .put-field2 .ensures) in
     let w3 = more w2 (k3 .before .delay-put .given .1) (rw (d .0, d .1) at (f3 .put-in .ensures)) in
