@@ -14,9 +14,9 @@ use Rattle.maps.specs.Form.{Rule, among, under, ground}
 use Rattle.maps.specs.Outcome.{accepted, refusal, outcomeNumber, outcomePlace}
 use Rattle.maps.specs.Records.{Records, sheetMeant, recordsOf}
 use Rattle.maps.specs.WriteLaws.{WriterLaws}
-use Rattle.maps.specs.Write.{Passes, First, numbers, spelling, writing}
+use Rattle.maps.specs.Write.{Passes, First, numbers, spelling, sheetMost, writing}
 use Rattle.maps.proofs.Written.{reproduced, meant-spelling}
-use Rattle.maps.proofs.WrittenSize.{sheetMost, numbers-most}
+use Rattle.maps.proofs.WrittenSize.{numbers-most}
 use Rattle.maps.proofs.WriteLaws.{writer-laws}
 use Rattle.bytes.specs.Outcome.{Answered}
 use Rattle.customer.specs.Stores.{Written, Refused, Stores, StoreBounded}

@@ -2,13 +2,13 @@
 ghost use Prim.Native.Nat.{_+_, _<_, _≤_};
 ghost use lib.ListN.{length};
 ghost use Rattle.maps.specs.Limits.{topRange, sizeRange};
-ghost use Rattle.maps.specs.Write.{headerEntries, headEntries, differenceNumbers};
-ghost use Rattle.records.specs.Rows.{differencePlace, differenceIn};
-ghost use Rattle.pen.specs.Wrote.{headerMost, headMost, differenceMost, Room, Wrote};
-use pen::Pen;
-use pen::Progress;
-use pen::put_field;
-use pen::put_in;
+ghost use Rattle.maps.specs.Write.{headerEntries, headEntries};
+ghost use Rattle.records.specs.Rows.{differencePlace, differenceEntries};
+ghost use Rattle.fields.specs.Wrote.{headerMost, headMost, differenceMost, Room, Wrote};
+use fields::Position;
+use fields::Progress;
+use fields::put_field;
+use fields::put_in;
 use ranges::Field;
 use ranges::range_of;
 use ranges::ranges_of;
@@ -24,12 +24,12 @@ pub fn put_header(
     n: usize,
     m: usize,
     bytes: &mut [u8],
-    pen: Pen,
+    position: Position,
 ) -> Progress
-    requires { ⌜ Room headerMost (now bytes) pen ⌝ }
-    ensures { λ r. ⌜ Wrote (headerEntries leaves top horizon n m) (now (bytes .entry)) (now (bytes .exit)) pen r ⌝ }
+    requires { ⌜ Room headerMost (now bytes) position ⌝ }
+    ensures { λ r. ⌜ Wrote (headerEntries leaves top horizon n m) (now (bytes .entry)) (now (bytes .exit)) position r ⌝ }
 {
-    let leaves_put = put_field(bytes, pen, Field::Leaves, leaves as u64);
+    let leaves_put = put_field(bytes, position, Field::Leaves, leaves as u64);
     let Progress::Next(p1) = leaves_put else {
         return leaves_put;
     };
@@ -49,15 +49,21 @@ pub fn put_header(
 }
 
 // Writes the numbers of a node before its operand ids, of which there are `count`.
-pub fn put_head(row: NodeRow, top: u32, count: usize, bytes: &mut [u8], pen: Pen) -> Progress
-    requires { ⌜ (top ≤ topRange .high) × Room headMost (now bytes) pen ⌝ }
-    ensures { λ r. ⌜ Wrote (headEntries top (row .kind) (row .output) (row .delay) (row .latency) count) (now (bytes .entry)) (now (bytes .exit)) pen r ⌝ }
+pub fn put_head(
+    row: NodeRow,
+    top: u32,
+    count: usize,
+    bytes: &mut [u8],
+    position: Position,
+) -> Progress
+    requires { ⌜ (top ≤ topRange .high) × Room headMost (now bytes) position ⌝ }
+    ensures { λ r. ⌜ Wrote (headEntries top (row .kind) (row .output) (row .delay) (row .latency) count) (now (bytes .entry)) (now (bytes .exit)) position r ⌝ }
 {
     let kind = row.kind;
     let mark = row.output as u64;
     let delay = row.delay as u64;
     let latency = row.latency as u64;
-    let kind_put = put_field(bytes, pen, Field::Kind, kind as u64);
+    let kind_put = put_field(bytes, position, Field::Kind, kind as u64);
     let Progress::Next(p1) = kind_put else {
         return kind_put;
     };
@@ -81,14 +87,20 @@ pub fn put_head(row: NodeRow, top: u32, count: usize, bytes: &mut [u8], pen: Pen
 }
 
 // Writes difference j among n nodes.
-pub fn put_difference(differences: &[u32], j: usize, n: u32, bytes: &mut [u8], pen: Pen) -> Progress
-    requires { ⌜ (differencePlace (j + 1) ≤ length (now differences)) × (0 < n) × (n ≤ sizeRange .high) × Room differenceMost (now bytes) pen ⌝ }
-    ensures { λ r. ⌜ Wrote (differenceNumbers n (differenceIn (now (differences .entry)) j)) (now (bytes .entry)) (now (bytes .exit)) pen r ⌝ }
+pub fn put_difference(
+    differences: &[u32],
+    j: usize,
+    n: u32,
+    bytes: &mut [u8],
+    position: Position,
+) -> Progress
+    requires { ⌜ (differencePlace (j + 1) ≤ length (now differences)) × (0 < n) × (n ≤ sizeRange .high) × Room differenceMost (now bytes) position ⌝ }
+    ensures { λ r. ⌜ Wrote (differenceEntries n (now (differences .entry)) j) (now (bytes .entry)) (now (bytes .exit)) position r ⌝ }
 {
     let row = difference_at(differences, j);
     let ids = range_of(Field::Id).up_to(n - 1);
     let from = row.from;
-    let from_put = put_in(bytes, pen, ids, from as u64);
+    let from_put = put_in(bytes, position, ids, from as u64);
     let Progress::Next(p1) = from_put else {
         return from_put;
     };

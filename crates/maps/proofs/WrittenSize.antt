@@ -11,7 +11,7 @@ use Rattle.maps.specs.Form.{under, done}
 use Rattle.maps.specs.Read.{sheetForm}
 use Rattle.maps.specs.Outcome.{accepted}
 use Rattle.maps.specs.Records.{NodeRecord, DifferenceRecord, Records, sheetMeant}
-use Rattle.maps.specs.Write.{Entry, entry, headerNumbers, headNumbers, nodeNumbers, differenceNumbers, eachNumbers, numbers, valuesOf, spelled, Passes, writing}
+use Rattle.maps.specs.Write.{Entry, entry, headerNumbers, headNumbers, nodeNumbers, differenceNumbers, eachNumbers, numbers, valuesOf, spelled, nodeBytesMost, sheetMost, Passes, writing}
 use Rattle.maps.proofs.Member.{All-join, All-split}
 use Rattle.maps.proofs.Spelling.{written-bytes, written-length, encoded-small}
 use Rattle.maps.proofs.Parse.{in-range, few}
@@ -30,14 +30,6 @@ written-are-bytes R room bytes e =
     let w = writing-passes R room e in
     let l = along-end sheetForm (numbers R) (sheetMeant R) (along-sheet R) (w .0) in
     rw (w .1) (small-bytes (valuesOf (numbers R)) (leads-small (valuesOf (numbers R)) (done (sheetMeant R)) l))
-
--- kind, mark, d and operand count are below 128 and take one byte each; lat and each operand id take `width`
-abbrev pub nodeMost : ℕ
-nodeMost = 4 + width + operandsMost * width
-
--- K and T take one byte each; H, n and m, and the three numbers of a difference take `width`: 10,760 bytes
-abbrev pub sheetMost : ℕ
-sheetMost = 1 + 1 + width + width + width + sizeRange .high * nodeMost + countRange .high * (3 * width)
 
 small-length : (n : ℕ) → n < 128 → length (encoded n) ≡ 1
 small-length n l = rw (encoded-small (width - 1) n l) refl
@@ -73,7 +65,7 @@ head-bytes top v l p =
     let lat = written-length (width - 1) (v .latency) in
     (simp length-append (omega arith), f)
 
-node-bytes : (top own : ℕ) (v : NodeRecord) → top ≤ topRange .high → All Passes (nodeNumbers top own v) → length (bytesOf (nodeNumbers top own v)) ≤ nodeMost
+node-bytes : (top own : ℕ) (v : NodeRecord) → top ≤ topRange .high → All Passes (nodeNumbers top own v) → length (bytesOf (nodeNumbers top own v)) ≤ nodeBytesMost
 node-bytes top own v l p =
     let us = map (entry (under own)) (v .operands) in
     let h = head-bytes top v l (All-split Passes (headNumbers top v) us p .0) in
@@ -81,7 +73,7 @@ node-bytes top own v l p =
     omega (arith, bytes-append (headNumbers top v) us, spelled-most (valuesOf us))
 
 nodes-bytes : (top own : ℕ) (vs : List NodeRecord) → top ≤ topRange .high → All Passes (eachNumbers (nodeNumbers top) own vs)
-    → length (bytesOf (eachNumbers (nodeNumbers top) own vs)) ≤ length vs * nodeMost
+    → length (bytesOf (eachNumbers (nodeNumbers top) own vs)) ≤ length vs * nodeBytesMost
 nodes-bytes top own [] l p = omega arith
 nodes-bytes top own (v ∷ vs) l p =
     let rest = eachNumbers (nodeNumbers top) (own + 1) vs in

@@ -6,8 +6,8 @@ use mathlib.Core.List.{List, [], _∷_, _++_, map}
 use lib.IntN.{ℤ, pos, negsuc}
 use lib.ListN.{length}
 use Rattle.maps.specs.Lists.{All, concat}
-use Rattle.maps.specs.Number.{encoded, encodedUpTo}
-use Rattle.maps.specs.Limits.{leavesRange, topRange, horizonRange, sizeRange, countRange, kindRange, markRange, idRange, weightRange, rangesOf}
+use Rattle.maps.specs.Number.{width, encoded, encodedUpTo}
+use Rattle.maps.specs.Limits.{leavesRange, topRange, horizonRange, sizeRange, countRange, kindRange, markRange, idRange, weightRange, operandsMost, rangesOf}
 use Rattle.maps.specs.Sheet.{Sheet}
 use Rattle.maps.specs.Form.{Rule, among, under, passes, ground}
 use Rattle.maps.specs.Records.{NodeRecord, DifferenceRecord, Records, recordsOf}
@@ -87,6 +87,14 @@ spelled ns = concat (map encoded ns)
 unfoldable pub spelling : Sheet → List ℕ
 unfolding numbers encodedUpTo
 spelling S = spelled (valuesOf (numbers (recordsOf S)))
+
+-- kind, mark, d and operand count are below 128 and have one byte each; lat and each operand id have at most `width`
+abbrev pub nodeBytesMost : ℕ
+nodeBytesMost = 4 + width + operandsMost * width
+
+-- bytes that no sheet exceeds: K and T have one byte each; H, n and m and the three numbers of a difference at most `width`
+abbrev pub sheetMost : ℕ
+sheetMost = 1 + 1 + width + width + width + sizeRange .high * nodeBytesMost + countRange .high * (3 * width)
 
 -- the number is as the reader asks
 abbrev pub Passes : Entry → Type 0

@@ -7,6 +7,7 @@ use lib.IntN.{ℤ, pos, negsuc}
 use lib.ListN.{length, getD, take, drop}
 use Rattle.maps.specs.Lists.{below}
 use Rattle.maps.specs.Records.{NodeRecord, DifferenceRecord, Records}
+use Rattle.maps.specs.Write.{Entry, nodeNumbers, differenceNumbers}
 use Rattle.records.specs.declared.NodeRow.{NodeRow}
 use Rattle.records.specs.declared.DifferenceRow.{DifferenceRow}
 
@@ -50,6 +51,10 @@ differenceIn differences j =
     let row = differenceRow differences j in
     record { from = row .from; to = row .to; weight = signed (row .weight) }
 
+-- its numbers among n nodes
+abbrev pub differenceEntries : (size : ℕ) (differences : List ℕ) → ℕ → List Entry
+differenceEntries n differences j = differenceNumbers n (differenceIn differences j)
+
 module _ (nodes operands : List ℕ) where
   -- where the operands of the nodes before v end: those of node v are the ones "from the end of the node before to its own end", and none past the
   -- array
@@ -64,6 +69,10 @@ module _ (nodes operands : List ℕ) where
   nodeIn v =
       let row = nodeRow nodes v in
       record { kind = row .kind; mark = row .output; delay = row .delay; latency = row .latency; operands = operandsIn v }
+
+-- its numbers
+abbrev pub nodeEntries : (top : ℕ) (nodes operands : List ℕ) → ℕ → List Entry
+nodeEntries top nodes operands v = nodeNumbers top v (nodeIn nodes operands v)
 
 -- K, T, H and the rows as records
 abbrev pub recordsIn : (k t h : ℕ) → (nodes operands differences : List ℕ) → Records

@@ -9,18 +9,18 @@ use Rattle.maps.specs.Limits.{topRange, sizeRange, countRange}
 use Rattle.maps.specs.Code.{numberOf, placeOf}
 use Rattle.maps.specs.Outcome.{refusal, within}
 use Rattle.maps.specs.Records.{Records}
-use Rattle.maps.specs.Write.{Entry, headerEntries, Passes, numbers, nodeNumbers, differenceNumbers, valuesOf, spelled, writing}
+use Rattle.maps.specs.Write.{Entry, headerEntries, Passes, numbers, nodeNumbers, differenceNumbers, writing}
 use Rattle.maps.specs.declared.Refusal.{Refusal}
 use Rattle.maps.proofs.Over.{length-below}
 use Rattle.maps.proofs.Member.{All-split}
 use Rattle.maps.proofs.Parse.{in-range}
 use Rattle.maps.proofs.Numbers.{concat-snoc, each-below}
 use Rattle.maps.proofs.Written.{passes-writing, first-refused}
-use Rattle.records.specs.Rows.{nodePlace, differencePlace, rowsIn, nodeIn, differenceIn, recordsIn}
-use Rattle.pen.specs.Wrote.{nodeMost, numbersMost, sheetRoom, start, Room, Wrote, on, off}
-use Rattle.pen.specs.declared.Pen.{Pen}
-use Rattle.pen.specs.declared.Progress.the-variants.{Next, Refused}
-use Rattle.pen.proofs.Wroting.{Come}
+use Rattle.records.specs.Rows.{nodePlace, differencePlace, rowsIn, nodeIn, differenceIn, nodeEntries, differenceEntries, recordsIn}
+use Rattle.fields.specs.Wrote.{nodeMost, numbersMost, sheetRoom, start, Room, Wrote, passed, failed}
+use Rattle.fields.specs.declared.Position.{Position}
+use Rattle.fields.specs.declared.Progress.the-variants.{Next, Refused}
+use Rattle.fields.proofs.WroteLaws.{Advances}
 use Rattle.writer.proofs.NodeRows.{node-most}
 
 -- a header whose numbers pass
@@ -30,8 +30,8 @@ pub record Limited (t n m : ℕ) : Type 0 where
   pub nodes : n ≤ sizeRange .high
   pub differences : m ≤ countRange .high
 
-pub limited : (k t h n m : ℕ) {a b : List ℕ} {p next : Pen} → Wrote (headerEntries k t h n m) a b p (Next next) → Limited t n m
-limited k t h n m (on good f e) =
+pub limited : (k t h n m : ℕ) {a b : List ℕ} {p next : Position} → Wrote (headerEntries k t h n m) a b p (Next next) → Limited t n m
+limited k t h n m (passed good f e) =
     let size = in-range sizeRange n (good .1 .1 .1 .0) in
     record { top = in-range topRange t (good .1 .0) .most; some = size .least; nodes = size .most; differences = in-range countRange m (good .1 .1 .1 .1 .0) .most }
 
@@ -39,24 +39,18 @@ limited k t h n m (on good f e) =
 pub room-whole : {bytes : List ℕ} → length bytes ≡ sheetRoom → Room numbersMost bytes start
 room-whole e = record { space = omega (arith, e); numbers = omega arith }
 
-abbrev pub nodesOf : (t : ℕ) (nodes operands : List ℕ) → ℕ → List Entry
-nodesOf t nodes operands v = nodeNumbers t v (nodeIn nodes operands v)
-
-abbrev pub differencesOf : (n : ℕ) (differences : List ℕ) → ℕ → List Entry
-differencesOf n differences j = differenceNumbers n (differenceIn differences j)
-
 -- n nodes that pass have at most n times the numbers of one
-pub nodes-come : (t : ℕ) (nodes operands : List ℕ) (n : ℕ) {a b : List ℕ} {p next : Pen} → Wrote (concat (map (nodesOf t nodes operands) (below n))) a b p (Next next)
-    → Come (n * nodeMost) a b p next
-nodes-come t nodes operands n (on good f e) =
+pub nodes-advance : (t : ℕ) (nodes operands : List ℕ) (n : ℕ) {a b : List ℕ} {p next : Position} → Wrote (concat (map (nodeEntries t nodes operands) (below n))) a b p (Next next)
+    → Advances (n * nodeMost) a b p next
+nodes-advance t nodes operands n (passed good f e) =
     record { near = omega (arith, f .near, go n good); counted = omega (arith, e, go n good); wide = f .wide }
   where
-    go : (n : ℕ) → All Passes (concat (map (nodesOf t nodes operands) (below n))) → length (concat (map (nodesOf t nodes operands) (below n))) ≤ n * nodeMost
+    go : (n : ℕ) → All Passes (concat (map (nodeEntries t nodes operands) (below n))) → length (concat (map (nodeEntries t nodes operands) (below n))) ≤ n * nodeMost
     go zero h = omega arith
     go (suc n) h =
-        let q = concat-snoc (nodesOf t nodes operands) (below n) n in
-        let s = All-split Passes (concat (map (nodesOf t nodes operands) (below n))) (nodesOf t nodes operands n) (rw q at h) in
-        let l = length-append (concat (map (nodesOf t nodes operands) (below n))) (nodesOf t nodes operands n) in
+        let q = concat-snoc (nodeEntries t nodes operands) (below n) n in
+        let s = All-split Passes (concat (map (nodeEntries t nodes operands) (below n))) (nodeEntries t nodes operands n) (rw q at h) in
+        let l = length-append (concat (map (nodeEntries t nodes operands) (below n))) (nodeEntries t nodes operands n) in
         rw q (omega (arith, l, go n (s .0), node-most t nodes operands n (s .1)))
 
 rows-map : {A : Type 0} (f : A → List Entry) (row : ℕ → A) (xs : List ℕ) → concat (map f (map row xs)) ≡ concat (map (λ j. f (row j)) xs)
@@ -69,7 +63,7 @@ count-rows row n = length-map (below n) row ∙ length-below n
 -- the numbers of the records in rows, part by part
 pub numbers-in : (k t h : ℕ) (nodes operands differences : List ℕ) (n m : ℕ) → n ≡ rowsIn nodePlace nodes → m ≡ rowsIn differencePlace differences
     → numbers (recordsIn k t h nodes operands differences)
-    ≡ headerEntries k t h n m ++ (concat (map (nodesOf t nodes operands) (below n)) ++ concat (map (differencesOf n differences) (below m)))
+    ≡ headerEntries k t h n m ++ (concat (map (nodeEntries t nodes operands) (below n)) ++ concat (map (differenceEntries n differences) (below m)))
 unfolding numbers
 numbers-in k t h nodes operands differences n m en em =
     rw (
@@ -83,12 +77,12 @@ numbers-in k t h nodes operands differences n m en em =
 
 module _ (R : Records) {before after : List ℕ} where
   -- a sheet that was made is what is to be handed over
-  pub made : {pen : Pen} → Wrote (numbers R) before after start (Next pen) → (room : ℕ) → writing R room ≡ within room (take (pen .at) after)
-  made (on good f e) room = rw (f .front) (passes-writing R room good)
+  pub made : {position : Position} → Wrote (numbers R) before after start (Next position) → (room : ℕ) → writing R room ≡ within room (take (position .at) after)
+  made (passed good f e) room = rw (f .front) (passes-writing R room good)
 
   -- and lies within the bytes
-  pub made-within : (pen : Pen) → Wrote (numbers R) before after start (Next pen) → pen .at ≤ length after
-  made-within pen (on good f e) = omega (arith, f .end, length-take (pen .at) after, ap length (f .front))
+  pub made-within : (position : Position) → Wrote (numbers R) before after start (Next position) → position .at ≤ length after
+  made-within position (passed good f e) = omega (arith, f .end, length-take (position .at) after, ap length (f .front))
 
   pub not-made : {w : Refusal} → Wrote (numbers R) before after start (Refused w) → (room : ℕ) → writing R room ≡ refusal (numberOf w) (placeOf w)
-  not-made (off {w = w} j f p l) room = let q : placeOf w ≡ j = omega arith in rw q (first-refused R room (numberOf w) j f)
+  not-made (failed {w = w} j f p l) room = let q : placeOf w ≡ j = omega arith in rw q (first-refused R room (numberOf w) j f)

@@ -6,14 +6,14 @@ ghost use lib.ListN.{length, take, drop};
 ghost use Rattle.maps.specs.Lists.{below, concat};
 ghost use Rattle.maps.specs.Limits.{topRange, sizeRange};
 ghost use Rattle.maps.specs.Form.{under};
-ghost use Rattle.maps.specs.Write.{entry, nodeNumbers, differenceNumbers};
-ghost use Rattle.records.specs.Rows.{nodePlace, differencePlace, endOf, nodeIn, differenceIn};
-ghost use Rattle.pen.specs.Wrote.{nodeMost, differenceMost, Room, Wrote};
+ghost use Rattle.maps.specs.Write.{entry};
+ghost use Rattle.records.specs.Rows.{nodePlace, differencePlace, endOf, nodeEntries, differenceEntries};
+ghost use Rattle.fields.specs.Wrote.{nodeMost, differenceMost, Room, Wrote};
 use entries::put_difference;
 use entries::put_head;
-use pen::Pen;
-use pen::Progress;
-use pen::put_operand;
+use fields::Position;
+use fields::Progress;
+use fields::put_operand;
 use records::end_of;
 use records::node_at;
 
@@ -24,12 +24,12 @@ pub fn put_operands(
     count: usize,
     own: u32,
     bytes: &mut [u8],
-    pen: Pen,
+    position: Position,
 ) -> Progress
-    requires { ⌜ (first + count ≤ length (now operands)) × (own ≤ sizeRange .high) × Room count (now bytes) pen ⌝ }
-    ensures { λ r. ⌜ Wrote (map (entry (under own)) (take count (drop first (now (operands .entry))))) (now (bytes .entry)) (now (bytes .exit)) pen r ⌝ }
+    requires { ⌜ (first + count ≤ length (now operands)) × (own ≤ sizeRange .high) × Room count (now bytes) position ⌝ }
+    ensures { λ r. ⌜ Wrote (map (entry (under own)) (take count (drop first (now (operands .entry))))) (now (bytes .entry)) (now (bytes .exit)) position r ⌝ }
 {
-    let mut to = pen;
+    let mut to = position;
     let mut i: usize = 0;
     while i < count {
         let id = operands[first + i];
@@ -51,11 +51,11 @@ pub fn put_node(
     first: usize,
     top: u32,
     bytes: &mut [u8],
-    pen: Pen,
+    position: Position,
 ) -> Progress
     requires { ⌜ (nodePlace (v + 1) ≤ length (now nodes)) × (v < sizeRange .high) × (first ≡ endOf (now nodes) (now operands) v) ⌝ }
-    requires { ⌜ (top ≤ topRange .high) × Room nodeMost (now bytes) pen ⌝ }
-    ensures { λ r. ⌜ Wrote (nodeNumbers top v (nodeIn (now (nodes .entry)) (now (operands .entry)) v)) (now (bytes .entry)) (now (bytes .exit)) pen r ⌝ }
+    requires { ⌜ (top ≤ topRange .high) × Room nodeMost (now bytes) position ⌝ }
+    ensures { λ r. ⌜ Wrote (nodeEntries top (now (nodes .entry)) (now (operands .entry)) v) (now (bytes .entry)) (now (bytes .exit)) position r ⌝ }
 {
     let row = node_at(nodes, v);
     let end = end_of(nodes, operands, v);
@@ -63,7 +63,7 @@ pub fn put_node(
     if first < end {
         count = end - first;
     }
-    let head = put_head(row, top, count, bytes, pen);
+    let head = put_head(row, top, count, bytes, position);
     let Progress::Next(next) = head else {
         return head;
     };
@@ -77,12 +77,12 @@ pub fn put_nodes(
     n: usize,
     top: u32,
     bytes: &mut [u8],
-    pen: Pen,
+    position: Position,
 ) -> Progress
-    requires { ⌜ (nodePlace n ≤ length (now nodes)) × (n ≤ sizeRange .high) × (top ≤ topRange .high) × Room (n * nodeMost) (now bytes) pen ⌝ }
-    ensures { λ r. ⌜ Wrote (concat (map (λ v. nodeNumbers top v (nodeIn (now (nodes .entry)) (now (operands .entry)) v)) (below n))) (now (bytes .entry)) (now (bytes .exit)) pen r ⌝ }
+    requires { ⌜ (nodePlace n ≤ length (now nodes)) × (n ≤ sizeRange .high) × (top ≤ topRange .high) × Room (n * nodeMost) (now bytes) position ⌝ }
+    ensures { λ r. ⌜ Wrote (concat (map (nodeEntries top (now (nodes .entry)) (now (operands .entry))) (below n))) (now (bytes .entry)) (now (bytes .exit)) position r ⌝ }
 {
-    let mut to = pen;
+    let mut to = position;
     let mut first: usize = 0;
     let mut v: usize = 0;
     while v < n {
@@ -103,12 +103,12 @@ pub fn put_differences(
     m: usize,
     n: u32,
     bytes: &mut [u8],
-    pen: Pen,
+    position: Position,
 ) -> Progress
-    requires { ⌜ (differencePlace m ≤ length (now differences)) × (0 < n) × (n ≤ sizeRange .high) × Room (m * differenceMost) (now bytes) pen ⌝ }
-    ensures { λ r. ⌜ Wrote (concat (map (λ j. differenceNumbers n (differenceIn (now (differences .entry)) j)) (below m))) (now (bytes .entry)) (now (bytes .exit)) pen r ⌝ }
+    requires { ⌜ (differencePlace m ≤ length (now differences)) × (0 < n) × (n ≤ sizeRange .high) × Room (m * differenceMost) (now bytes) position ⌝ }
+    ensures { λ r. ⌜ Wrote (concat (map (differenceEntries n (now (differences .entry))) (below m))) (now (bytes .entry)) (now (bytes .exit)) position r ⌝ }
 {
-    let mut to = pen;
+    let mut to = position;
     let mut j: usize = 0;
     while j < m {
         let part = put_difference(differences, j, n, bytes, to);

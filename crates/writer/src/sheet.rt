@@ -4,14 +4,14 @@ ghost use lib.ListN.{length};
 ghost use Rattle.maps.specs.Write.{numbers, writing};
 ghost use Rattle.bytes.specs.Outcome.{Answered, numberAnswered, placeAnswered};
 ghost use Rattle.records.specs.Rows.{recordsIn};
-ghost use Rattle.pen.specs.Wrote.{sheetRoom, start, Wrote};
+ghost use Rattle.fields.specs.Wrote.{sheetRoom, start, Wrote};
 use crate::parts::put_differences;
 use crate::parts::put_nodes;
 use bytes::Outcome;
 use bytes::hand_over;
 use entries::put_header;
-use pen::Pen;
-use pen::Progress;
+use fields::Position;
+use fields::Progress;
 use records::difference_count;
 use records::node_count;
 
@@ -34,7 +34,15 @@ pub fn make_sheet(
 {
     let n = node_count(nodes);
     let m = difference_count(differences);
-    let header = put_header(leaves, top, horizon, n, m, bytes, Pen { at: 0, number: 0 });
+    let header = put_header(
+        leaves,
+        top,
+        horizon,
+        n,
+        m,
+        bytes,
+        Position { at: 0, number: 0 },
+    );
     let Progress::Next(p1) = header else {
         return header;
     };
@@ -70,9 +78,9 @@ pub fn write(
     );
     match made {
         Progress::Refused(why) => Outcome::Refused(why),
-        Progress::Next(pen) => {
+        Progress::Next(position) => {
             let whole = &bytes;
-            hand_over(whole, buffer, pen.at)
+            hand_over(whole, buffer, position.at)
         }
     }
 }

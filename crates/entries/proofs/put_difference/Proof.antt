@@ -7,7 +7,7 @@ use Rattle.maps.specs.Form.{among}
 use Rattle.maps.specs.Write.{entry, codeOfWeight}
 use Rattle.ranges.proofs.RangeLaws.{ids-right}
 use Rattle.records.specs.Rows.{differenceRow, signed}
-use Rattle.pen.proofs.Wroting.{begun, more, stopped, last-one, wrote-wide, has-come, room-left, room-less}
+use Rattle.fields.proofs.WroteLaws.{begun, more, stopped, last-one, wrote-wide, advances, room-left, room-less}
 use Rattle.entries.proofs.put_difference.Statement.{statement}
 use Rattle.entries.proofs.put_difference.Tie as tie
 
@@ -37,7 +37,7 @@ put-in-requires-2 c κs =
     let i = ids-right (s .args .n) (up .before .range-of .result) _ (s .pre .2) (up .before .range-of .ensures) (up .up-to .ensures) in
     let row = up .before .before .difference-at .ensures in
     let w1 = begun (k1 .before .from-put .given .1) (rw (i .0, i .1, row) at (f1 .put-in .ensures)) in
-    (omega (arith, i .1, s .pre .2), room-left 1 (omega arith) (has-come w1) (s .pre .3))
+    (omega (arith, i .1, s .pre .2), room-left 1 (omega arith) (advances w1) (s .pre .3))
 
 returns-2 : tie.Need-returns-2
 returns-2 c =
@@ -63,7 +63,7 @@ put-field-requires c κs =
     let row = up .before .before .difference-at .ensures in
     let w1 = begun (k1 .before .from-put .given .1) (rw (i .0, i .1, row) at (f1 .put-in .ensures)) in
     let w2 = more w1 (k2 .before .to-put .given .1) (rw (i .0, i .1, row) at (f2 .put-in2 .ensures)) in
-    room-left 1 (omega arith) (has-come w2) (s .pre .3)
+    room-left 1 (omega arith) (advances w2) (s .pre .3)
 
 returns-3 : tie.Need-returns-3
 returns-3 c =

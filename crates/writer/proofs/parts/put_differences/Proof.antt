@@ -1,29 +1,25 @@
 -- `parts::put_differences` meets its contract. The invariant: the first j differences are written.
-use Prim.Native.Nat.{ℕ, _+_, _-_, _*_, _≤_}
+use Prim.Native.Nat.{_+_, _-_, _*_, _≤_}
 use native.Mathlib.Omega.{arith}
-use mathlib.Core.List.{List, map}
+use mathlib.Core.List.{map}
 use borrow.Author.Needs.{needs}
 use Rattle.maps.specs.Lists.{below, concat}
-use Rattle.maps.specs.Write.{Entry, differenceNumbers}
-use Rattle.records.specs.Rows.{differenceIn}
-use Rattle.pen.specs.Wrote.{differenceMost, Wrote}
-use Rattle.pen.specs.declared.Progress.the-variants.{Next}
-use Rattle.pen.proofs.Wroting.{Come, begun, has-come, come-none, come-then, room-left, wrote-none, wrote-wide, rows-next, rows-stop, rows-all}
+use Rattle.records.specs.Rows.{differenceEntries}
+use Rattle.fields.specs.Wrote.{differenceMost, Wrote}
+use Rattle.fields.specs.declared.Progress.the-variants.{Next}
+use Rattle.fields.proofs.WroteLaws.{Advances, begun, advances, advances-none, advances-then, room-left, wrote-none, wrote-wide, rows-next, rows-stop, rows-all}
 use Rattle.writer.proofs.parts.put_differences.Statement.{statement}
 use Rattle.writer.proofs.parts.put_differences.Tie as tie
 
-abbrev row : (differences : List ℕ) (n : ℕ) → ℕ → List Entry
-row differences n j = differenceNumbers n (differenceIn differences j)
-
 abbrev Inv-loop : tie.InvT-loop
 Inv-loop differences m n bytes₀ to₀ j₀ bytes to j =
-    (j ≤ m) × Come (j * differenceMost) bytes₀ bytes to₀ to × Wrote (concat (map (row differences n) (below j))) bytes₀ bytes to₀ (Next to)
+    (j ≤ m) × Advances (j * differenceMost) bytes₀ bytes to₀ to × Wrote (concat (map (differenceEntries n differences) (below j))) bytes₀ bytes to₀ (Next to)
 
 abbrev μ-loop : tie.MeasureT-loop
 μ-loop differences m n bytes₀ to₀ j₀ bytes to j = m - j
 
 loop-holds : tie.Need-loop-holds Inv-loop μ-loop
-loop-holds c = (omega arith, come-none _ _, wrote-none _ _)
+loop-holds c = (omega arith, advances-none _ _, wrote-none _ _)
 
 put-difference-requires : tie.Need-put-difference-requires Inv-loop μ-loop
 put-difference-requires c κs =
@@ -38,7 +34,7 @@ returns c =
     let t = f .before .before in
     let l = t .before .loop in
     let s = t .before .before .before .before in
-    rows-stop (row (s .args .differences .now) (s .args .n)) (l .j) (s .args .m) (omega (arith, t .loop-test .taken)) (c .enum-told .given .1) (l .inv .2) (f .put-difference .ensures)
+    rows-stop (differenceEntries (s .args .n) (s .args .differences .now)) (l .j) (s .args .m) (omega (arith, t .loop-test .taken)) (c .enum-told .given .1) (l .inv .2) (f .put-difference .ensures)
 
 same-length : tie.Need-same-length Inv-loop μ-loop
 same-length c = wrote-wide (returns c)
@@ -51,15 +47,15 @@ loop-again c =
     let s = t .before .before .before .before in
     let e = c .before .part .given .1 in (
       omega (arith, t .loop-test .taken),
-      come-then ((l .j + 1) * differenceMost) (omega arith) (l .inv .1) (has-come (begun e (f .put-difference .ensures))),
-      rows-next (row (s .args .differences .now) (s .args .n)) (l .j) e (l .inv .2) (f .put-difference .ensures),
+      advances-then ((l .j + 1) * differenceMost) (omega arith) (l .inv .1) (advances (begun e (f .put-difference .ensures))),
+      rows-next (differenceEntries (s .args .n) (s .args .differences .now)) (l .j) e (l .inv .2) (f .put-difference .ensures),
     )
 
 returns-2 : tie.Need-returns-2 Inv-loop μ-loop
 returns-2 c =
     let l = c .before .loop in
     let s = c .before .before .before .before in
-    rows-all (row (s .args .differences .now) (s .args .n)) (l .j) (s .args .m) (l .inv .0) (omega (arith, c .loop-test .left)) (l .inv .2)
+    rows-all (differenceEntries (s .args .n) (s .args .differences .now)) (l .j) (s .args .m) (l .inv .0) (omega (arith, c .loop-test .left)) (l .inv .2)
 
 same-length-2 : tie.Need-same-length-2 Inv-loop μ-loop
 same-length-2 c = wrote-wide (returns-2 c)

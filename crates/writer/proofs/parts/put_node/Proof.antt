@@ -8,8 +8,8 @@ use lib.ListN.{take, drop}
 use borrow.Author.Needs.{needs}
 use Rattle.maps.specs.Form.{under}
 use Rattle.maps.specs.Write.{entry}
-use Rattle.pen.specs.Wrote.{headMost}
-use Rattle.pen.proofs.Wroting.{begun, stopped, last-one, wrote-wide, has-come, room-left, room-less}
+use Rattle.fields.specs.Wrote.{headMost}
+use Rattle.fields.proofs.WroteLaws.{begun, stopped, last-one, wrote-wide, advances, room-left, room-less}
 use Rattle.writer.proofs.NodeRows.{head-few, within-array, node-numbers}
 use Rattle.writer.proofs.parts.put_node.Statement.{statement}
 use Rattle.writer.proofs.parts.put_node.Tie as tie
@@ -48,7 +48,7 @@ put-operands-requires c κs =
     let w = begun (k .before .head .given .1) (h .put-head .ensures) in (
       within-array (s .args .nodes .now) (s .args .operands .now) (s .args .v) (s .args .first) (e .end-of .result) (j .if1 .count) (s .pre .0 .2) (e .end-of .ensures) (counts j),
       omega (arith, s .pre .0 .1),
-      room-left (j .if1 .count) (omega (arith, head-few (s .args .top) (j .if1 .count) (n .node-at .result) w)) (has-come w) (s .pre .1 .1),
+      room-left (j .if1 .count) (omega (arith, head-few (s .args .top) (j .if1 .count) (n .node-at .result) w)) (advances w) (s .pre .1 .1),
     )
 
 returns-2 : tie.Need-returns-2

@@ -1,32 +1,28 @@
 -- `parts::put_nodes` meets its contract. The invariant: the first v nodes are written, and the operands of node v begin at `first`.
-use Prim.Native.Nat.{ℕ, _+_, _-_, _*_, _≤_}
+use Prim.Native.Nat.{_+_, _-_, _*_, _≤_}
 use native.Mathlib.Omega.{arith}
 use mathlib.Core.Path.{_≡_, refl}
-use mathlib.Core.List.{List, map}
+use mathlib.Core.List.{map}
 use borrow.Author.Needs.{needs}
 use Rattle.maps.specs.Lists.{below, concat}
-use Rattle.maps.specs.Write.{Entry, nodeNumbers}
-use Rattle.records.specs.Rows.{endOf, nodeIn}
-use Rattle.pen.specs.Wrote.{nodeMost, Wrote}
-use Rattle.pen.specs.declared.Progress.the-variants.{Next}
-use Rattle.pen.proofs.Wroting.{Come, begun, come-none, come-then, room-left, wrote-none, wrote-wide, rows-next, rows-stop, rows-all}
-use Rattle.writer.proofs.NodeRows.{node-come}
+use Rattle.records.specs.Rows.{endOf, nodeEntries}
+use Rattle.fields.specs.Wrote.{nodeMost, Wrote}
+use Rattle.fields.specs.declared.Progress.the-variants.{Next}
+use Rattle.fields.proofs.WroteLaws.{Advances, begun, advances-none, advances-then, room-left, wrote-none, wrote-wide, rows-next, rows-stop, rows-all}
+use Rattle.writer.proofs.NodeRows.{node-advances}
 use Rattle.writer.proofs.parts.put_nodes.Statement.{statement}
 use Rattle.writer.proofs.parts.put_nodes.Tie as tie
 
-abbrev row : (nodes operands : List ℕ) (top : ℕ) → ℕ → List Entry
-row nodes operands top v = nodeNumbers top v (nodeIn nodes operands v)
-
 abbrev Inv-loop : tie.InvT-loop
 Inv-loop nodes operands n top bytes₀ to₀ first₀ v₀ bytes to first v =
-    (v ≤ n) × (first ≡ endOf nodes operands v) × Come (v * nodeMost) bytes₀ bytes to₀ to
-    × Wrote (concat (map (row nodes operands top) (below v))) bytes₀ bytes to₀ (Next to)
+    (v ≤ n) × (first ≡ endOf nodes operands v) × Advances (v * nodeMost) bytes₀ bytes to₀ to
+    × Wrote (concat (map (nodeEntries top nodes operands) (below v))) bytes₀ bytes to₀ (Next to)
 
 abbrev μ-loop : tie.MeasureT-loop
 μ-loop nodes operands n top bytes₀ to₀ first₀ v₀ bytes to first v = n - v
 
 loop-holds : tie.Need-loop-holds Inv-loop μ-loop
-loop-holds c = (omega arith, refl, come-none _ _, wrote-none _ _)
+loop-holds c = (omega arith, refl, advances-none _ _, wrote-none _ _)
 
 put-node-requires : tie.Need-put-node-requires Inv-loop μ-loop
 put-node-requires c κs =
@@ -44,7 +40,7 @@ returns c =
     let t = f .before .before in
     let l = t .before .loop in
     let s = t .before .before .before .before .before in
-    rows-stop (row (s .args .nodes .now) (s .args .operands .now) (s .args .top)) (l .v) (s .args .n) (omega (arith, t .loop-test .taken)) (c .enum-told .given .1) (l .inv .3) (f .put-node .ensures)
+    rows-stop (nodeEntries (s .args .top) (s .args .nodes .now) (s .args .operands .now)) (l .v) (s .args .n) (omega (arith, t .loop-test .taken)) (c .enum-told .given .1) (l .inv .3) (f .put-node .ensures)
 
 same-length : tie.Need-same-length Inv-loop μ-loop
 same-length c = wrote-wide (returns c)
@@ -65,16 +61,16 @@ loop-again c =
     let e = k .before .part .given .1 in (
       omega (arith, t .loop-test .taken),
       c .end-of .ensures,
-      come-then ((l .v + 1) * nodeMost) (omega arith) (l .inv .2)
-          (node-come (s .args .top) (s .args .nodes .now) (s .args .operands .now) (l .v) (begun e (f .put-node .ensures))),
-      rows-next (row (s .args .nodes .now) (s .args .operands .now) (s .args .top)) (l .v) e (l .inv .3) (f .put-node .ensures),
+      advances-then ((l .v + 1) * nodeMost) (omega arith) (l .inv .2)
+          (node-advances (s .args .top) (s .args .nodes .now) (s .args .operands .now) (l .v) (begun e (f .put-node .ensures))),
+      rows-next (nodeEntries (s .args .top) (s .args .nodes .now) (s .args .operands .now)) (l .v) e (l .inv .3) (f .put-node .ensures),
     )
 
 returns-2 : tie.Need-returns-2 Inv-loop μ-loop
 returns-2 c =
     let l = c .before .loop in
     let s = c .before .before .before .before .before in
-    rows-all (row (s .args .nodes .now) (s .args .operands .now) (s .args .top)) (l .v) (s .args .n) (l .inv .0) (omega (arith, c .loop-test .left)) (l .inv .3)
+    rows-all (nodeEntries (s .args .top) (s .args .nodes .now) (s .args .operands .now)) (l .v) (s .args .n) (l .inv .0) (omega (arith, c .loop-test .left)) (l .inv .3)
 
 same-length-2 : tie.Need-same-length-2 Inv-loop μ-loop
 same-length-2 c = wrote-wide (returns-2 c)

@@ -8,9 +8,9 @@ use Rattle.maps.specs.Lists.{below, concat}
 use Rattle.maps.specs.Form.{under}
 use Rattle.maps.specs.Write.{Entry, entry}
 use Rattle.maps.proofs.Numbers.{slice-below}
-use Rattle.pen.specs.Wrote.{Wrote}
-use Rattle.pen.specs.declared.Progress.the-variants.{Next}
-use Rattle.pen.proofs.Wroting.{Come, begun, has-come, come-none, come-then, room-left, wrote-none, wrote-wide, rows-next, rows-stop, rows-all}
+use Rattle.fields.specs.Wrote.{Wrote}
+use Rattle.fields.specs.declared.Progress.the-variants.{Next}
+use Rattle.fields.proofs.WroteLaws.{Advances, begun, advances, advances-none, advances-then, room-left, wrote-none, wrote-wide, rows-next, rows-stop, rows-all}
 use Rattle.writer.proofs.parts.put_operands.Statement.{statement}
 use Rattle.writer.proofs.parts.put_operands.Tie as tie
 
@@ -19,13 +19,13 @@ id operands own first j = entry (under own) (getD operands (first + j) 0) ∷ []
 
 abbrev Inv-loop : tie.InvT-loop
 Inv-loop operands first count own bytes₀ to₀ i₀ bytes to i =
-    (i ≤ count) × Come i bytes₀ bytes to₀ to × Wrote (concat (map (id operands own first) (below i))) bytes₀ bytes to₀ (Next to)
+    (i ≤ count) × Advances i bytes₀ bytes to₀ to × Wrote (concat (map (id operands own first) (below i))) bytes₀ bytes to₀ (Next to)
 
 abbrev μ-loop : tie.MeasureT-loop
 μ-loop operands first count own bytes₀ to₀ i₀ bytes to i = count - i
 
 loop-holds : tie.Need-loop-holds Inv-loop μ-loop
-loop-holds c = (omega arith, come-none _ _, wrote-none _ _)
+loop-holds c = (omega arith, advances-none _ _, wrote-none _ _)
 
 put-operand-requires : tie.Need-put-operand-requires Inv-loop μ-loop
 put-operand-requires c κs =
@@ -54,7 +54,7 @@ loop-again c =
     let s = t .before .before .before .before in
     let e = c .before .part .given .1 in (
       omega (arith, t .loop-test .taken),
-      come-then (l .i + 1) (omega arith) (l .inv .1) (has-come (begun e (f .put-operand .ensures))),
+      advances-then (l .i + 1) (omega arith) (l .inv .1) (advances (begun e (f .put-operand .ensures))),
       rows-next (id (s .args .operands .now) (s .args .own) (s .args .first)) (l .i) e (l .inv .2) (f .put-operand .ensures),
     )
 

@@ -4,9 +4,10 @@ use native.Mathlib.Omega.{arith}
 use mathlib.Core.List.{_++_, map}
 use borrow.Author.Needs.{needs}
 use Rattle.maps.specs.Lists.{below, concat}
-use Rattle.pen.specs.Wrote.{headerMost, nodeMost, differenceMost}
-use Rattle.pen.proofs.Wroting.{begun, stopped, last-one, has-come, come-then, room-left, room-less}
-use Rattle.writer.proofs.Sheets.{limited, room-whole, nodesOf, differencesOf, nodes-come, numbers-in}
+use Rattle.records.specs.Rows.{nodeEntries, differenceEntries}
+use Rattle.fields.specs.Wrote.{headerMost, nodeMost, differenceMost}
+use Rattle.fields.proofs.WroteLaws.{begun, stopped, last-one, advances, advances-then, room-left, room-less}
+use Rattle.writer.proofs.Sheets.{limited, room-whole, nodes-advance, numbers-in}
 use Rattle.writer.proofs.sheet.make_sheet.Statement.{statement}
 use Rattle.writer.proofs.sheet.make_sheet.Tie as tie
 
@@ -22,8 +23,8 @@ returns c =
     let a = s .args in
     rw (numbers-in (a .leaves) (a .top) (a .horizon) (a .nodes .now) (a .operands .now) (a .differences .now) (n .node-count .result) (m .difference-count .result) (n .node-count .ensures) (m .difference-count .ensures))
     (stopped
-    (concat (map (nodesOf (a .top) (a .nodes .now) (a .operands .now)) (below (n .node-count .result)))
-    ++ concat (map (differencesOf (n .node-count .result) (a .differences .now)) (below (m .difference-count .result)))) (c .enum-told .given .1) (h .put-header .ensures))
+    (concat (map (nodeEntries (a .top) (a .nodes .now) (a .operands .now)) (below (n .node-count .result)))
+    ++ concat (map (differenceEntries (n .node-count .result) (a .differences .now)) (below (m .difference-count .result)))) (c .enum-told .given .1) (h .put-header .ensures))
 
 put-nodes-requires : tie.Need-put-nodes-requires
 put-nodes-requires c κs =
@@ -35,7 +36,7 @@ put-nodes-requires c κs =
     let a = s .args in
     let w1 = begun (k1 .before .header .given .1) (h .put-header .ensures) in
     let l = limited (a .leaves) (a .top) (a .horizon) (n .node-count .result) (m .difference-count .result) w1 in
-    (omega (arith, n .node-count .ensures), l .nodes, l .top, room-left (n .node-count .result * nodeMost) (omega (arith, l .nodes)) (has-come w1) (room-whole (s .pre)))
+    (omega (arith, n .node-count .ensures), l .nodes, l .top, room-left (n .node-count .result * nodeMost) (omega (arith, l .nodes)) (advances w1) (room-whole (s .pre)))
 
 returns-2 : tie.Need-returns-2
 returns-2 c =
@@ -48,7 +49,7 @@ returns-2 c =
     let a = s .args in
     rw (numbers-in (a .leaves) (a .top) (a .horizon) (a .nodes .now) (a .operands .now) (a .differences .now) (n .node-count .result) (m .difference-count .result) (n .node-count .ensures) (m .difference-count .ensures))
     (last-one (begun (k1 .before .header .given .1) (h .put-header .ensures))
-    (stopped (concat (map (differencesOf (n .node-count .result) (a .differences .now)) (below (m .difference-count .result)))) (c .enum-told2 .given .1) (v .put-nodes .ensures)))
+    (stopped (concat (map (differenceEntries (n .node-count .result) (a .differences .now)) (below (m .difference-count .result)))) (c .enum-told2 .given .1) (v .put-nodes .ensures)))
 
 cast-put-differences : tie.Need-cast-put-differences
 cast-put-differences c =
@@ -73,8 +74,8 @@ put-differences-requires c κs =
     let w1 = begun (k1 .before .header .given .1) (h .put-header .ensures) in
     let w2 = begun (k2 .before .body .given .1) (v .put-nodes .ensures) in
     let l = limited (a .leaves) (a .top) (a .horizon) (n .node-count .result) (m .difference-count .result) w1 in
-    let come = come-then (headerMost + n .node-count .result * nodeMost) (omega arith) (has-come w1) (nodes-come (a .top) (a .nodes .now) (a .operands .now) (n .node-count .result) w2) in
-    (omega (arith, m .difference-count .ensures), l .some, l .nodes, room-left (m .difference-count .result * differenceMost) (omega (arith, l .nodes, l .differences)) come (room-whole (s .pre)))
+    let far = advances-then (headerMost + n .node-count .result * nodeMost) (omega arith) (advances w1) (nodes-advance (a .top) (a .nodes .now) (a .operands .now) (n .node-count .result) w2) in
+    (omega (arith, m .difference-count .ensures), l .some, l .nodes, room-left (m .difference-count .result * differenceMost) (omega (arith, l .nodes, l .differences)) far (room-whole (s .pre)))
 
 returns-3 : tie.Need-returns-3
 returns-3 c =

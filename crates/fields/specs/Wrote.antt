@@ -10,9 +10,9 @@ use Rattle.maps.specs.Code.{numberOf, placeOf}
 use Rattle.maps.specs.Write.{Entry, Passes, First, valuesOf, spelled}
 use Rattle.maps.specs.declared.Refusal.{Refusal}
 use Rattle.bytes.specs.Put.{Put}
-use Rattle.pen.specs.declared.Pen.{Pen}
-use Rattle.pen.specs.declared.Progress.{Progress}
-use Rattle.pen.specs.declared.Progress.the-variants.{Next, Refused}
+use Rattle.fields.specs.declared.Position.{Position}
+use Rattle.fields.specs.declared.Progress.{Progress}
+use Rattle.fields.specs.declared.Progress.the-variants.{Next, Refused}
 
 -- how many numbers the header has, a node before its operand ids, a node at most, a difference, and a sheet at most
 abbrev pub headerMost : ℕ
@@ -35,17 +35,17 @@ abbrev pub sheetRoom : ℕ
 sheetRoom = width * numbersMost
 
 -- where writing starts
-abbrev pub start : Pen
+abbrev pub start : Position
 start = record { at = 0; number = 0 }
 
 -- there is room for n numbers more
-pub record Room (n : ℕ) (bytes : List ℕ) (pen : Pen) : Type 0 where
-  pub space : pen .at + width * n ≤ length bytes
-  pub numbers : pen .number + n ≤ numbersMost
+pub record Room (n : ℕ) (bytes : List ℕ) (from : Position) : Type 0 where
+  pub space : from .at + width * n ≤ length bytes
+  pub numbers : from .number + n ≤ numbersMost
 
--- the numbers es after those before the pen: all pass and stand in their spelling, or the first that does not is named
-pub data Wrote (es : List Entry) (before after : List ℕ) (pen : Pen) : Progress → Type 0 where
-  on : {next : Pen} → All Passes es → Put (width * length es) before after (pen .at) (next .at) (spelled (valuesOf es))
-      → next .number ≡ pen .number + length es → Wrote es before after pen (Next next)
-  off : {w : Refusal} (j : ℕ) → First es (numberOf w) j → placeOf w ≡ pen .number + j → length after ≡ length before
-      → Wrote es before after pen (Refused w)
+-- the numbers es, from a position on: all pass and stand in their spelling, or the first that does not is named
+pub data Wrote (es : List Entry) (before after : List ℕ) (from : Position) : Progress → Type 0 where
+  passed : {next : Position} → All Passes es → Put (width * length es) before after (from .at) (next .at) (spelled (valuesOf es))
+      → next .number ≡ from .number + length es → Wrote es before after from (Next next)
+  failed : {w : Refusal} (j : ℕ) → First es (numberOf w) j → placeOf w ≡ from .number + j → length after ≡ length before
+      → Wrote es before after from (Refused w)

@@ -1,25 +1,25 @@
 -- `put_in` meets its contract.
 use borrow.Author.Needs.{needs}
 use native.Mathlib.Omega.{arith}
-use Rattle.pen.proofs.Wroting.{wrote-low, wrote-high, wrote-among}
-use Rattle.pen.proofs.put_in.Statement.{statement}
-use Rattle.pen.proofs.put_in.Tie as tie
+use Rattle.fields.proofs.WroteLaws.{wrote-low, wrote-high, wrote-among}
+use Rattle.fields.proofs.put_in.Statement.{statement}
+use Rattle.fields.proofs.put_in.Tie as tie
 
 returns : tie.Need-returns
 returns c =
     let s = c .before .before in
-    wrote-low (s .args .bytes .now) (s .args .pen) (s .args .span .low) (s .args .span .high) (s .args .x) (c .if1 .taken)
+    wrote-low (s .args .bytes .now) (s .args .position) (s .args .span .low) (s .args .span .high) (s .args .x) (c .if1 .taken)
 
 returns-2 : tie.Need-returns-2
 returns-2 c =
     let s = c .before .before .before in
-    wrote-high (s .args .bytes .now) (s .args .pen) (s .args .span .low) (s .args .span .high) (s .args .x) (c .if2 .taken)
+    wrote-high (s .args .bytes .now) (s .args .position) (s .args .span .low) (s .args .span .high) (s .args .x) (c .if2 .taken)
 
 returns-3 : tie.Need-returns-3
 returns-3 c =
     let s = c .before .before .before .before .before .before .before in
     let w = c .before .before .put in
-    wrote-among (s .args .bytes .now) (s .args .pen) (s .args .span .low) (s .args .span .high) (s .args .x) (w .last .0) (w .result) (omega arith)
+    wrote-among (s .args .bytes .now) (s .args .position) (s .args .span .low) (s .args .span .high) (s .args .x) (w .last .0) (w .result) (omega arith)
     (omega arith) (w .ensures)
 
 pub put-in-spec : {M : Type 1} → statement M

@@ -6,10 +6,10 @@ use Rattle.maps.specs.Form.{among}
 use Rattle.maps.specs.Write.{entry}
 use Rattle.ranges.specs.Ranges.{spanMeant}
 use Rattle.ranges.specs.declared.Span.{Span}
-use Rattle.pen.specs.Wrote.{Wrote}
-use Rattle.pen.proofs.Fields.{field-small}
-use Rattle.pen.proofs.put_field.Statement.{statement}
-use Rattle.pen.proofs.put_field.Tie as tie
+use Rattle.fields.specs.Wrote.{Wrote}
+use Rattle.fields.proofs.Spelled.{field-small}
+use Rattle.fields.proofs.put_field.Statement.{statement}
+use Rattle.fields.proofs.put_field.Tie as tie
 
 put-in-requires : tie.Need-put-in-requires
 put-in-requires c κs =

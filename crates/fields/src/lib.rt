@@ -6,7 +6,7 @@ ghost use Rattle.maps.specs.Limits.{sizeRange};
 ghost use Rattle.maps.specs.Form.{among, under};
 ghost use Rattle.maps.specs.Write.{entry};
 ghost use Rattle.ranges.specs.Ranges.{spanMeant, fieldRange};
-ghost use Rattle.pen.specs.Wrote.{Room, Wrote};
+ghost use Rattle.fields.specs.Wrote.{Room, Wrote};
 use bytes::put;
 use maps::Refusal;
 use ranges::Field;
@@ -14,58 +14,58 @@ use ranges::Span;
 use ranges::range_of;
 
 // Where writing stands: the position of the next byte, and which number of the sheet comes next.
-pub struct Pen {
+pub struct Position {
     pub at: usize,
     pub number: usize,
 }
 
 // How far writing came.
 pub enum Progress {
-    Next(Pen),
+    Next(Position),
     Refused(Refusal),
 }
 
 // Writes a number in a range.
-pub fn put_in(bytes: &mut [u8], pen: Pen, span: Span, x: u64) -> Progress
-    requires { ⌜ (span .high < values) × Room 1 (now bytes) pen ⌝ }
-    ensures { λ r. ⌜ Wrote (entry (among (spanMeant span)) x ∷ []) (now (bytes .entry)) (now (bytes .exit)) pen r ⌝ }
+pub fn put_in(bytes: &mut [u8], position: Position, span: Span, x: u64) -> Progress
+    requires { ⌜ (span .high < values) × Room 1 (now bytes) position ⌝ }
+    ensures { λ r. ⌜ Wrote (entry (among (spanMeant span)) x ∷ []) (now (bytes .entry)) (now (bytes .exit)) position r ⌝ }
 {
     let low = span.low;
     let high = span.high;
-    let number = pen.number;
+    let number = position.number;
     if x < low as u64 {
         return Progress::Refused(Refusal::Range(number));
     }
     if (high as u64) < x {
         return Progress::Refused(Refusal::Range(number));
     }
-    let next = put(bytes, pen.at, x as u32);
-    Progress::Next(Pen {
+    let next = put(bytes, position.at, x as u32);
+    Progress::Next(Position {
         at: next,
         number: number + 1,
     })
 }
 
 // Writes a number in the range of its field.
-pub fn put_field(bytes: &mut [u8], pen: Pen, field: Field, x: u64) -> Progress
-    requires { ⌜ Room 1 (now bytes) pen ⌝ }
-    ensures { λ r. ⌜ Wrote (entry (among (fieldRange field)) x ∷ []) (now (bytes .entry)) (now (bytes .exit)) pen r ⌝ }
+pub fn put_field(bytes: &mut [u8], position: Position, field: Field, x: u64) -> Progress
+    requires { ⌜ Room 1 (now bytes) position ⌝ }
+    ensures { λ r. ⌜ Wrote (entry (among (fieldRange field)) x ∷ []) (now (bytes .entry)) (now (bytes .exit)) position r ⌝ }
 {
     let span = range_of(field);
-    put_in(bytes, pen, span, x)
+    put_in(bytes, position, span, x)
 }
 
 // Writes an operand of the node own.
-pub fn put_operand(bytes: &mut [u8], pen: Pen, own: u32, x: u32) -> Progress
-    requires { ⌜ (own ≤ sizeRange .high) × Room 1 (now bytes) pen ⌝ }
-    ensures { λ r. ⌜ Wrote (entry (under own) x ∷ []) (now (bytes .entry)) (now (bytes .exit)) pen r ⌝ }
+pub fn put_operand(bytes: &mut [u8], position: Position, own: u32, x: u32) -> Progress
+    requires { ⌜ (own ≤ sizeRange .high) × Room 1 (now bytes) position ⌝ }
+    ensures { λ r. ⌜ Wrote (entry (under own) x ∷ []) (now (bytes .entry)) (now (bytes .exit)) position r ⌝ }
 {
-    let number = pen.number;
+    let number = position.number;
     if own <= x {
         return Progress::Refused(Refusal::Operand(number));
     }
-    let next = put(bytes, pen.at, x);
-    Progress::Next(Pen {
+    let next = put(bytes, position.at, x);
+    Progress::Next(Position {
         at: next,
         number: number + 1,
     })

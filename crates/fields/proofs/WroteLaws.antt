@@ -21,13 +21,13 @@ use Rattle.maps.proofs.Member.{All-join}
 use Rattle.maps.proofs.Numbers.{spelled-append, first-later, first-sooner, concat-snoc}
 use Rattle.bytes.specs.Put.{Put}
 use Rattle.bytes.proofs.Putting.{put-none, put-then}
-use Rattle.pen.specs.declared.Pen.{Pen}
-use Rattle.pen.specs.declared.Progress.{Progress}
-use Rattle.pen.specs.declared.Progress.the-variants.{Next, Refused}
-use Rattle.pen.specs.Wrote.{Room, Wrote, on, off}
+use Rattle.fields.specs.declared.Position.{Position}
+use Rattle.fields.specs.declared.Progress.{Progress}
+use Rattle.fields.specs.declared.Progress.the-variants.{Next, Refused}
+use Rattle.fields.specs.Wrote.{Room, Wrote, passed, failed}
 
-abbrev pub pen : (at number : ℕ) → Pen
-pen a n = record { at = a; number = n }
+abbrev pub position : (at number : ℕ) → Position
+position a n = record { at = a; number = n }
 
 -- a number that fails, and one that passes
 fails-here : (r : Rule) (x : ℕ) → passes r x ≡ false → First (entry r x ∷ []) (ground r) 0
@@ -37,87 +37,87 @@ and-false : (a : Bool) → (a && false) ≡ false
 and-false true = refl
 and-false false = refl
 
-module _ (bytes : List ℕ) (p : Pen) (low high x : ℕ) where
+module _ (bytes : List ℕ) (p : Position) (low high x : ℕ) where
   pub wrote-low : x < low → Wrote (entry (among (range low high)) x ∷ []) bytes bytes p (Refused (Range (p .number)))
-  wrote-low l = off 0 (fails-here (among (range low high)) x (rw (lt-leb low x l))) (sym (add-zero (p .number))) refl
+  wrote-low l = failed 0 (fails-here (among (range low high)) x (rw (lt-leb low x l))) (sym (add-zero (p .number))) refl
 
   pub wrote-high : high < x → Wrote (entry (among (range low high)) x ∷ []) bytes bytes p (Refused (Range (p .number)))
-  wrote-high l = off 0 (fails-here (among (range low high)) x (rw (lt-leb x high l) (and-false (leb low x)))) (sym (add-zero (p .number))) refl
+  wrote-high l = failed 0 (fails-here (among (range low high)) x (rw (lt-leb x high l) (and-false (leb low x)))) (sym (add-zero (p .number))) refl
 
   pub wrote-among : (after : List ℕ) (next : ℕ) → low ≤ x → x ≤ high → Put width bytes after (p .at) next (encoded x)
-      → Wrote (entry (among (range low high)) x ∷ []) bytes after p (Next (pen next (p .number + 1)))
-  wrote-among after next l h w = on {next = pen next (p .number + 1)} (rw (le-leb low x l, le-leb x high h), tt) (rw (append-nil (encoded x)) w) refl
+      → Wrote (entry (among (range low high)) x ∷ []) bytes after p (Next (position next (p .number + 1)))
+  wrote-among after next l h w = passed {next = position next (p .number + 1)} (rw (le-leb low x l, le-leb x high h), tt) (rw (append-nil (encoded x)) w) refl
 
-module _ (bytes : List ℕ) (p : Pen) (own x : ℕ) where
+module _ (bytes : List ℕ) (p : Position) (own x : ℕ) where
   pub wrote-own : own ≤ x → Wrote (entry (under own) x ∷ []) bytes bytes p (Refused (Operand (p .number)))
-  wrote-own l = off 0 (fails-here (under own) x (le-ltb x own l)) (sym (add-zero (p .number))) refl
+  wrote-own l = failed 0 (fails-here (under own) x (le-ltb x own l)) (sym (add-zero (p .number))) refl
 
   pub wrote-under : (after : List ℕ) (next : ℕ) → x < own → Put width bytes after (p .at) next (encoded x)
-      → Wrote (entry (under own) x ∷ []) bytes after p (Next (pen next (p .number + 1)))
-  wrote-under after next l w = on {next = pen next (p .number + 1)} (lt-ltb x own l, tt) (rw (append-nil (encoded x)) w) refl
+      → Wrote (entry (under own) x ∷ []) bytes after p (Next (position next (p .number + 1)))
+  wrote-under after next l w = passed {next = position next (p .number + 1)} (lt-ltb x own l, tt) (rw (append-nil (encoded x)) w) refl
 
 -- nothing yet
-pub wrote-none : (bytes : List ℕ) (p : Pen) → Wrote [] bytes bytes p (Next p)
-wrote-none bytes p = on tt (put-none bytes (p .at)) (sym (add-zero (p .number)))
+pub wrote-none : (bytes : List ℕ) (p : Position) → Wrote [] bytes bytes p (Next p)
+wrote-none bytes p = passed tt (put-none bytes (p .at)) (sym (add-zero (p .number)))
 
 -- one part after another
-wrote-stop : (es ds : List Entry) {a b : List ℕ} {p : Pen} {w : Refusal} → Wrote es a b p (Refused w) → Wrote (es ++ ds) a b p (Refused w)
-wrote-stop es ds (off j f q l) = off j (first-sooner es ds _ j f) q l
+wrote-stop : (es ds : List Entry) {a b : List ℕ} {p : Position} {w : Refusal} → Wrote es a b p (Refused w) → Wrote (es ++ ds) a b p (Refused w)
+wrote-stop es ds (failed j f q l) = failed j (first-sooner es ds _ j f) q l
 
-pub wrote-then : (es ds : List Entry) {a b c : List ℕ} {p next : Pen} {r : Progress} → Wrote es a b p (Next next) → Wrote ds b c next r
+pub wrote-then : (es ds : List Entry) {a b c : List ℕ} {p next : Position} {r : Progress} → Wrote es a b p (Next next) → Wrote ds b c next r
     → Wrote (es ++ ds) a c p r
-wrote-then es ds (on good f n) (on {next = last} more g m) =
-    on {next = last} (All-join Passes es ds good more)
+wrote-then es ds (passed good f n) (passed {next = last} more g m) =
+    passed {next = last} (All-join Passes es ds good more)
     (rw (map-append (λ (e : Entry). e .value) es ds, spelled-append (valuesOf es) (valuesOf ds)) (put-then _ (omega (arith, length-append es ds)) f g))
     (omega (arith, length-append es ds))
-wrote-then es ds (on good f n) (off {w = w} j g q l) = off {w = w} (length es + j) (first-later es ds _ j good g) (omega arith) (l ∙ f .wide)
+wrote-then es ds (passed good f n) (failed {w = w} j g q l) = failed {w = w} (length es + j) (first-later es ds _ j good g) (omega arith) (l ∙ f .wide)
 
 -- the same of an answer that was looked at: the first part, one more, and the part that stopped before `rest`
-pub begun : {es : List Entry} {a b : List ℕ} {p next : Pen} {q : Progress} → q ≡ Next next → Wrote es a b p q → Wrote es a b p (Next next)
+pub begun : {es : List Entry} {a b : List ℕ} {p next : Position} {q : Progress} → q ≡ Next next → Wrote es a b p q → Wrote es a b p (Next next)
 begun e h = rw e at h
 
-pub more : {es ds : List Entry} {a b c : List ℕ} {p next last : Pen} {q : Progress} → Wrote es a b p (Next next) → q ≡ Next last → Wrote ds b c next q
+pub more : {es ds : List Entry} {a b c : List ℕ} {p next last : Position} {q : Progress} → Wrote es a b p (Next next) → q ≡ Next last → Wrote ds b c next q
     → Wrote (es ++ ds) a c p (Next last)
 more {es} {ds} h e k = wrote-then es ds h (rw e at k)
 
-pub stopped : {es : List Entry} (rest : List Entry) {a b : List ℕ} {p : Pen} {q : Progress} {w : Refusal} → q ≡ Refused w → Wrote es a b p q
+pub stopped : {es : List Entry} (rest : List Entry) {a b : List ℕ} {p : Position} {q : Progress} {w : Refusal} → q ≡ Refused w → Wrote es a b p q
     → Wrote (es ++ rest) a b p q
 stopped {es} rest e h = rw e (wrote-stop es rest (rw e at h))
 
-pub last-one : {es ds : List Entry} {a b c : List ℕ} {p next : Pen} {r : Progress} → Wrote es a b p (Next next) → Wrote ds b c next r
+pub last-one : {es ds : List Entry} {a b c : List ℕ} {p next : Position} {r : Progress} → Wrote es a b p (Next next) → Wrote ds b c next r
     → Wrote (es ++ ds) a c p r
 last-one {es} {ds} h k = wrote-then es ds h k
 
 -- the buffer keeps its length
-pub wrote-wide : {es : List Entry} {a b : List ℕ} {p : Pen} {r : Progress} → Wrote es a b p r → length b ≡ length a
-wrote-wide (on good f n) = f .wide
-wrote-wide (off j f q l) = l
+pub wrote-wide : {es : List Entry} {a b : List ℕ} {p : Position} {r : Progress} → Wrote es a b p r → length b ≡ length a
+wrote-wide (passed good f n) = f .wide
+wrote-wide (failed j f q l) = l
 
--- how far n numbers at most have come
-pub record Come (n : ℕ) (a b : List ℕ) (p next : Pen) : Type 0 where
+-- how far n numbers at most have brought the position
+pub record Advances (n : ℕ) (a b : List ℕ) (p next : Position) : Type 0 where
   pub near : next .at ≤ p .at + width * n
   pub counted : next .number ≤ p .number + n
   pub wide : length b ≡ length a
 
-pub has-come : {es : List Entry} {a b : List ℕ} {p next : Pen} → Wrote es a b p (Next next) → Come (length es) a b p next
-has-come (on good f n) = record { near = f .near; counted = omega arith; wide = f .wide }
+pub advances : {es : List Entry} {a b : List ℕ} {p next : Position} → Wrote es a b p (Next next) → Advances (length es) a b p next
+advances (passed good f n) = record { near = f .near; counted = omega arith; wide = f .wide }
 
-pub come-none : (a : List ℕ) (p : Pen) → Come 0 a a p p
-come-none a p = record { near = omega arith; counted = omega arith; wide = refl }
+pub advances-none : (a : List ℕ) (p : Position) → Advances 0 a a p p
+advances-none a p = record { near = omega arith; counted = omega arith; wide = refl }
 
-pub come-then : {n m : ℕ} (k : ℕ) {a b c : List ℕ} {p next last : Pen} → n + m ≤ k → Come n a b p next → Come m b c next last → Come k a c p last
-come-then k l f g =
+pub advances-then : {n m : ℕ} (k : ℕ) {a b c : List ℕ} {p next last : Position} → n + m ≤ k → Advances n a b p next → Advances m b c next last → Advances k a c p last
+advances-then k l f g =
     record { near = omega (arith, f .near, g .near); counted = omega (arith, f .counted, g .counted); wide = g .wide ∙ f .wide }
 
 -- and what room is left after them
-pub room-left : {n : ℕ} (k : ℕ) {m : ℕ} {a b : List ℕ} {p next : Pen} → n + k ≤ m → Come n a b p next → Room m a p → Room k b next
+pub room-left : {n : ℕ} (k : ℕ) {m : ℕ} {a b : List ℕ} {p next : Position} → n + k ≤ m → Advances n a b p next → Room m a p → Room k b next
 room-left k l c r = record { space = omega (arith, c .near, c .wide, r .space); numbers = omega (arith, c .counted, r .numbers) }
 
-pub room-less : (k : ℕ) {m : ℕ} {a : List ℕ} {p : Pen} → k ≤ m → Room m a p → Room k a p
+pub room-less : (k : ℕ) {m : ℕ} {a : List ℕ} {p : Position} → k ≤ m → Room m a p → Room k a p
 room-less k l r = record { space = omega (arith, r .space); numbers = omega (arith, r .numbers) }
 
 -- rows in order: one more of them, and the rest after a refusal
-rows-more : (f : ℕ → List Entry) (j : ℕ) {a b c : List ℕ} {p next : Pen} {r : Progress} → Wrote (concat (map f (below j))) a b p (Next next)
+rows-more : (f : ℕ → List Entry) (j : ℕ) {a b c : List ℕ} {p next : Position} {r : Progress} → Wrote (concat (map f (below j))) a b p (Next next)
     → Wrote (f j) b c next r → Wrote (concat (map f (below (suc j)))) a c p r
 rows-more f j h k = rw (concat-snoc f (below j) j) (wrote-then (concat (map f (below j))) (f j) h k)
 
@@ -129,17 +129,17 @@ rows-split f (suc k) n =
     (append-assoc (concat (map f (below n))) (concat (map (λ j. f (n + j)) (below k))) (f (n + k)))
 
 module _ (f : ℕ → List Entry) (j : ℕ) where
-  pub rows-next : {a b c : List ℕ} {p next last : Pen} {q : Progress} → q ≡ Next last → Wrote (concat (map f (below j))) a b p (Next next)
+  pub rows-next : {a b c : List ℕ} {p next last : Position} {q : Progress} → q ≡ Next last → Wrote (concat (map f (below j))) a b p (Next next)
       → Wrote (f j) b c next q → Wrote (concat (map f (below (j + 1)))) a c p (Next last)
   rows-next e h k = rw (add-one j) (rows-more f j h (rw e at k))
 
-  pub rows-stop : (n : ℕ) → j < n → {a b c : List ℕ} {p next : Pen} {r : Progress} {w : Refusal} → r ≡ Refused w
+  pub rows-stop : (n : ℕ) → j < n → {a b c : List ℕ} {p next : Position} {r : Progress} {w : Refusal} → r ≡ Refused w
       → Wrote (concat (map f (below j))) a b p (Next next) → Wrote (f j) b c next r → Wrote (concat (map f (below n))) a c p r
   rows-stop n l e h k =
       let q : n ≡ suc j + (n - suc j) = omega arith in
       rw (q, rows-split f (n - suc j) (suc j))
       (stopped (concat (map (λ m. f (suc j + m)) (below (n - suc j)))) e (rows-more f j h k))
 
-  pub rows-all : (n : ℕ) → j ≤ n → n ≤ j → {a b : List ℕ} {p : Pen} {r : Progress} → Wrote (concat (map f (below j))) a b p r
+  pub rows-all : (n : ℕ) → j ≤ n → n ≤ j → {a b : List ℕ} {p : Position} {r : Progress} → Wrote (concat (map f (below j))) a b p r
       → Wrote (concat (map f (below n))) a b p r
   rows-all n l m h = let e : n ≡ j = omega arith in rw e h

@@ -1,0 +1,2 @@
+pub mod WroteLaws
+pub mod Spelled

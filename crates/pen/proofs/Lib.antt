@@ -1,2 +1,0 @@
-pub mod Wroting
-pub mod Fields
