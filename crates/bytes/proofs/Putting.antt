@@ -1,14 +1,15 @@
 -- Writes into a buffer: a number, and one write after another.
-use Prim.Native.Nat.{ℕ, _+_, _/_, _%_, _≤_, _<_}
+use Prim.Native.Nat.{ℕ, zero, suc, _+_, _/_, _%_, _^_, _≤_, _<_}
 use mathlib.Core.Path.{_≡_, refl, sym, ap, _∙_}
 use mathlib.Core.List.{List, [], _∷_, _++_, map, append-assoc, append-nil}
 use native.Mathlib.Omega.{arith}
 use native.Mathlib.Numerals.{add-one}
 use lib.ListN.{length, take, set, length-append, length-set}
 use lib.Seq.{take-suc-set}
-use borrow.Author.Tests.{lt-ltb, le-ltb}
+use borrow.Author.Tests.{le-ltb}
 use Rattle.maps.specs.Lists.{concat}
-use Rattle.maps.specs.Number.{encoded, encodedUpTo}
+use Rattle.maps.specs.Number.{encodedUpTo}
+use Rattle.maps.proofs.Spelling.{encoded-small}
 use Rattle.bytes.specs.Put.{Put}
 
 -- nothing is written
@@ -40,19 +41,51 @@ put-byte bytes at x l =
       front = rw (add-one at) (take-suc-set bytes at x l);
     }
 
--- a number in one byte, and in two
-pub put-small : (bytes : List ℕ) (at x : ℕ) → x < 128 → at + 2 ≤ length bytes → Put 2 bytes (set bytes at x) at (at + 1) (encoded x)
-unfolding encodedUpTo
-put-small bytes at x s l = rw (lt-ltb x 128 s) (put-within 2 (omega arith) (put-byte bytes at x (omega arith)))
+-- A number of at most 1 + g bytes, written group by group: the low groups of x stand from `at` to `to`, and what is left of x, `rest`, has a spelling
+-- in the bytes that are left.
+pub record Begun (g x : ℕ) (before bytes : List ℕ) (at to rest : ℕ) : Type 0 where
+  pub low : List ℕ
+  pub left : ℕ
+  pub count : length low + left ≡ g
+  pub put : Put (length low) before bytes at to low
+  pub fits : rest < 128 ^ suc left
+  pub whole : encodedUpTo g x ≡ low ++ encodedUpTo left rest
 
-pub put-large : (bytes : List ℕ) (at x : ℕ) → 128 ≤ x → at + 2 ≤ length bytes
-    → Put 2 bytes (set (set bytes at (128 + x % 128)) (at + 1) (x / 128)) at (at + 2) (encoded x)
-unfolding encodedUpTo
-put-large bytes at x s l =
-    let f = put-byte bytes at (128 + x % 128) (omega arith) in
-    let g = put-byte (set bytes at (128 + x % 128)) (at + 1) (x / 128) (omega (arith, length-set bytes at (128 + x % 128))) in
-    let e : at + 2 ≡ at + 1 + 1 = omega arith in
-    rw (le-ltb x 128 s, e) (put-then 2 (omega arith) f g)
+module _ {g x : ℕ} {before : List ℕ} {at : ℕ} where
+  pub begun-none : x < 128 ^ suc g → Begun g x before before at at x
+  begun-none l = record { low = []; left = g; count = omega arith; put = put-none before at; fits = l; whole = refl }
+
+  module _ {bytes : List ℕ} {to rest : ℕ} (room : at + suc g ≤ length before) (b : Begun g x before bytes at to rest) where
+    -- there is room for the next byte
+    pub begun-room : to < length bytes
+    begun-room = omega (arith, b .put .end, b .put .wide, b .count)
+
+    -- the next group: a rest of 128 or more has another byte after it
+    pub begun-more : 128 ≤ rest → Begun g x before (set bytes to (128 + rest % 128)) at (to + 1) (rest / 128)
+    unfolding encodedUpTo
+    begun-more l = go (b .left) (b .count) (b .fits) (b .whole)
+      where
+        group : List ℕ
+        group = (128 + rest % 128) ∷ []
+
+        go : (k : ℕ) → length (b .low) + k ≡ g → rest < 128 ^ suc k → encodedUpTo g x ≡ b .low ++ encodedUpTo k rest
+            → Begun g x before (set bytes to (128 + rest % 128)) at (to + 1) (rest / 128)
+        go zero c f w = absurd (omega arith)
+        go (suc k) c f w =
+            let n = length-append (b .low) group in
+            record {
+              low = b .low ++ group;
+              left = k;
+              count = omega arith;
+              put = put-then _ (omega arith) (b .put) (put-byte bytes to (128 + rest % 128) begun-room);
+              fits = omega arith;
+              whole = w ∙ rw (le-ltb rest 128 l) (sym (append-assoc (b .low) group (encodedUpTo k (rest / 128))));
+            }
+
+    -- the last group
+    pub begun-last : rest < 128 → Put (suc g) before (set bytes to rest) at (to + 1) (encodedUpTo g x)
+    begun-last l =
+        rw (b .whole, encoded-small (b .left) rest l) (put-then (suc g) (omega (arith, b .count)) (b .put) (put-byte bytes to rest begun-room))
 
 -- one more element
 pub concat-more : {A : Type 0} (f : A → List ℕ) (xs : List A) (y : A) → concat (map f (xs ++ (y ∷ []))) ≡ concat (map f xs) ++ f y

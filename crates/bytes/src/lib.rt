@@ -15,20 +15,21 @@ pub enum Outcome {
     Refused(Refusal),
 }
 
-// Writes x in one or two bytes; the position after them.
+// Writes x, seven bits in each byte and the low group first; the position after it.
 pub fn put(bytes: &mut [u8], at: usize, x: u32) -> usize
     requires { ⌜ (x < values) × (at + width ≤ length (now bytes)) ⌝ }
     ensures { λ r. ⌜ Put width (now (bytes .entry)) (now (bytes .exit)) at r (encoded x) ⌝ }
 {
-    if x < 128 {
-        bytes[at] = x as u8;
-        return at + 1;
+    let mut rest = x;
+    let mut to = at;
+    while 128 <= rest {
+        let group = 128 + rest % 128;
+        bytes[to] = group as u8;
+        rest /= 128;
+        to += 1;
     }
-    let low = 128 + x % 128;
-    let high = x / 128;
-    bytes[at] = low as u8;
-    bytes[at + 1] = high as u8;
-    at + 2
+    bytes[to] = rest as u8;
+    to + 1
 }
 
 // Copies the first n bytes into the buffer.

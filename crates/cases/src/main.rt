@@ -1,4 +1,4 @@
-// The cases of document 01, each planned and printed.
+// The cases of document 01 and those of longer numbers, each planned and printed.
 fn main() {
     // the hall sheet
     report::report(
@@ -72,4 +72,22 @@ fn main() {
     report::report(b"\x80\x00");
     // ff 7f is 16,383, no K
     report::report(b"\xff\x7f");
+    // 80 80 00
+    report::report(b"\x80\x80\x00");
+    // 80 80 80
+    report::report(b"\x80\x80\x80");
+    // ff ff 7f is 2,097,151, no K
+    report::report(b"\xff\xff\x7f");
+    // two inputs, H = 65,535 and a difference (0, 1, 65,535)
+    report::report(
+        b"\x02\x01\xff\xff\x03\x02\x01\x00\x00\x00\x00\x00\x00\x00\x00\x00\x00\x00\x01\xfe\xff\x07",
+    );
+    // the same with H = 65,534
+    report::report(
+        b"\x02\x01\xfe\xff\x03\x02\x01\x00\x00\x00\x00\x00\x00\x00\x00\x00\x00\x00\x01\xfe\xff\x07",
+    );
+    // the same with H = 65,536
+    report::report(
+        b"\x02\x01\x80\x80\x04\x02\x01\x00\x00\x00\x00\x00\x00\x00\x00\x00\x00\x00\x01\xfe\xff\x07",
+    );
 }

@@ -5,7 +5,7 @@ use mathlib.Core.Bool.{Bool, true, false, cond, _&&_}
 use mathlib.Core.List.{List, [], _∷_, map, List·Memᴰ}
 use mathlib.Core.Logic.{_⊎_, inl, inr}
 use native.Mathlib.Omega.{arith}
-use native.Mathlib.Nat.{suc-mul}
+use native.Mathlib.Nat.{suc-mul, mul-le-mul-right}
 use lib.ListN.{length, length-append, length-map}
 use Rattle.maps.specs.Lists.{All, mem, below, concat}
 use Rattle.maps.specs.Label.{Label}
@@ -14,25 +14,23 @@ use Rattle.maps.specs.Cut.{logicNode}
 use Rattle.maps.specs.Legal.{Legal, latencyOfAll}
 use Rattle.maps.specs.Least.{at}
 use Rattle.maps.specs.Cover.{chosenCut, carryingCuts, used}
-use Rattle.maps.specs.Number.{Bytes, width, encoded}
+use Rattle.maps.specs.Limits.{leavesRange, topRange, sizeRange, markRange, idRange}
+use Rattle.maps.specs.Number.{Bytes, width, encoded, encodedUpTo, bytesFor}
+use Rattle.maps.specs.Write.{idBytesMost}
 use Rattle.maps.specs.Plan.{leavesOf, row, plan}
 use Rattle.maps.specs.WellFormed.{WellFormed}
-use Rattle.maps.proofs.Member.{All-of, everywhere, below-out}
+use Rattle.maps.proofs.Member.{All-of, All-map, below-out}
 use Rattle.maps.proofs.Over.{length-over}
 use Rattle.maps.proofs.Chosen.{best-in, carrying-sound}
 use Rattle.maps.specs.Outcome.{accepted, refusal, outcome, outcomeNumber}
-use Rattle.maps.proofs.Spelling.{written-length, encoded-small}
+use Rattle.maps.proofs.Planned.{ordered}
+use Rattle.maps.proofs.UsedNodes.{chosen-below}
+use Rattle.maps.proofs.Spelling.{written-length}
+use Rattle.maps.proofs.WrittenSize.{within-bytes}
 use Rattle.maps.proofs.Refusing.{refuses-number}
-use Rattle.customer.specs.Bounds.{numberMost, smallMost, rowMost, planMost, Bounded}
+use Rattle.customer.specs.Bounds.{rowMost, planMost, mapsPlanMost, Bounded}
 use Rattle.customer.specs.Demands.{Ground, unread, uncut, tooLate, tooShort, planned}
 use Rattle.customer.proofs.Demands.{ground-of}
-
--- how long a number is, and one below 128
-number-length : (n : ℕ) → length (encoded n) ≤ numberMost
-number-length n = written-length (width - 1) n .1
-
-small-length : (n : ℕ) → n < 128 → length (encoded n) ≤ smallMost
-small-length n l = omega (arith, ap length (encoded-small (width - 1) n l))
 
 -- lists of at most b elements each, one after the other
 concat-length : {A B : Type 0} (f : A → List B) (b : ℕ) (xs : List A) → All (λ x. length (f x) ≤ b) xs → length (concat (map f xs)) ≤ length (map f xs) * b
@@ -47,6 +45,7 @@ chosen-few S L v i = go (best-in (carryingCuts S L v))
     go (inl e) = rw e (omega arith)
     go (inr m) = carrying-sound S L v i (chosenCut S L v) m .0 .fits
 
+-- as many leaves as K, each an id
 leaves-few : (S : Sheet) (L : List Label) (us : List ℕ) (v : ℕ) → length (leavesOf S L us v) ≤ S .leaves
 leaves-few S L us v = go (mem v us) (logicNode S v) refl
   where
@@ -55,35 +54,45 @@ leaves-few S L us v = go (mem v us) (logicNode S v) refl
     go true false i = omega arith
     go false b i = omega arith
 
+leaves-below : (S : Sheet) → WellFormed S → (L : List Label) (us : List ℕ) (v : ℕ) → All (λ u. u < v) (leavesOf S L us v)
+leaves-below S well L us v = go (mem v us) (logicNode S v) refl
+  where
+    go : (a b : Bool) → logicNode S v ≡ b → All (λ u. u < v) (cond (a && b) (chosenCut S L v) [])
+    go true true i = All-of _ (chosenCut S L v) (λ u m. chosen-below S (ordered S well) L v u i m)
+    go true false i = tt
+    go false b i = tt
+
 module _ (S : Sheet) (well : WellFormed S) (L : List Label) (ok : Legal S (at L) (S .horizon)) where
   -- the row of a node: step, level, mark, leaf count, leaves
   row-length : (us : List ℕ) (v : ℕ) → v < size S → length (row S L us v) ≤ rowMost
   row-length us v l =
       let ls = leavesOf S L us v in
-      let few = leaves-few S L us v in
-      let six = well .leaves .most in
-      let top = well .top .most in
-      let high = ok .nodes v l .high in
-      let leaves = concat-length encoded 2 ls (everywhere number-length ls) in
-      let counted = length-map ls encoded in
-      let count = small-length (length ls) (omega arith) in
-      let level = small-length (at L v .level) (omega arith) in
+      let few : length ls ≤ leavesRange .high = omega (arith, leaves-few S L us v, well .leaves .most) in
+      let low : All (λ u. u ≤ idRange (sizeRange .high) .high) ls = All-map (λ u h. omega (arith, well .size .most)) ls (leaves-below S well L us v) in
+      let leaves = rw (length-map ls encoded) at (concat-length encoded idBytesMost ls (All-map (λ u h. within-bytes h) ls low)) in
+      let most = mul-le-mul-right idBytesMost few in
+      let count = within-bytes few in
+      let level = within-bytes {n = at L v .level} {most = topRange .high} (omega (arith, ok .nodes v l .high, well .top .most)) in
       let mark = mark-length (mem v us) in
-      let step = number-length (at L v .step) in
+      let step = written-length (width - 1) (at L v .step) in
       simp length-append (omega arith)
     where
-      mark-length : (b : Bool) → length (encoded (cond b 1 0)) ≤ 1
-      mark-length true = small-length 1 (omega arith)
-      mark-length false = small-length 0 (omega arith)
+      mark-length : (b : Bool) → bytesFor (cond b 1 0) ≤ bytesFor (markRange .high)
+      mark-length true = within-bytes (omega arith)
+      mark-length false = within-bytes (omega arith)
 
   pub plan-length : length (plan S L) ≤ planMost
   unfolding plan
   plan-length =
       let rows = concat-length (row S L (used S L)) rowMost (below (size S)) (All-of _ (below (size S)) (λ v m. row-length (used S L) v (below-out (size S) v m))) in
-      let latency = number-length (latencyOfAll S (at L)) in
+      let latency = written-length (width - 1) (latencyOfAll S (at L)) in
       let n = length-over (row S L (used S L)) [] (size S) in
-      let most = well .size .most in
+      let most = mul-le-mul-right rowMost (well .size .most) in
       simp length-append (omega arith)
+
+plan-most : planMost ≡ mapsPlanMost
+unfolding encodedUpTo
+plan-most = refl
 
 module _ (bytes : List ℕ) (room : ℕ) where
   number-most : {k p : ℕ} → Ground bytes room k p → k ≤ 8
@@ -113,9 +122,9 @@ module _ (bytes : List ℕ) (room : ℕ) where
   bounded g =
       record {
         numbers = number-most g;
-        written = λ e. place-most g (inl e);
-        wanted = λ e. place-most g (inr e);
-        enough = λ l e. omega (arith, room-less g e, place-most g (inr e));
+        written = λ e. omega (arith, plan-most, place-most g (inl e));
+        wanted = λ e. omega (arith, plan-most, place-most g (inr e));
+        enough = λ l e. omega (arith, plan-most, room-less g e, place-most g (inr e));
       }
 
   -- the same of the defined outcome

@@ -9,6 +9,7 @@ use lib.Dec.{leb}
 use lib.ListN.{length, take}
 use borrow.Author.Tests.{leb-true, leb-false}
 use Rattle.maps.specs.Lists.{All}
+use Rattle.maps.specs.Number.{encodedUpTo}
 use Rattle.maps.specs.Reading.{ReadsAs}
 use Rattle.maps.specs.Form.{Rule, among, under, ground}
 use Rattle.maps.specs.Outcome.{accepted, refusal, outcomeNumber, outcomePlace}
@@ -19,8 +20,12 @@ use Rattle.maps.proofs.Written.{reproduced, meant-spelling}
 use Rattle.maps.proofs.WrittenSize.{numbers-most}
 use Rattle.maps.proofs.WriteLaws.{writer-laws}
 use Rattle.bytes.specs.Outcome.{Answered}
-use Rattle.customer.specs.Stores.{Written, Refused, Stores, StoreBounded}
+use Rattle.customer.specs.Stores.{Written, Refused, Stores, mapsSheetMost, StoreBounded}
 use Rattle.customer.proofs.Answers.{untouched, placed, front, back}
+
+sheet-most : sheetMost ≡ mapsSheetMost
+unfolding encodedUpTo
+sheet-most = refl
 
 module _ (R : Records) (buffer : List ℕ) (number place : ℕ) (after : List ℕ) (is : Answered (writing R (length buffer)) number place buffer after) where
   accepts : (bytes : List ℕ) → writing R (length buffer) ≡ accepted bytes → Written R buffer number place after bytes
@@ -92,8 +97,8 @@ module _ (R : Records) (buffer : List ℕ) (number place : ℕ) (after : List �
       fault k (inl e) a = record { numbers = inr (inl (a ∙ e)); written = λ z. absurd (omega arith); wanted = λ z. absurd (omega arith); enough = λ l z. omega arith }
       fault k (inr e) a = record { numbers = inr (inr (inl (a ∙ e))); written = λ z. absurd (omega arith); wanted = λ z. absurd (omega arith); enough = λ l z. omega arith }
 
-      most : All Passes (numbers R) → length text ≤ sheetMost
-      most p = rw (meant-spelling R p) (numbers-most R p)
+      most : All Passes (numbers R) → length text ≤ mapsSheetMost
+      most p = rw (meant-spelling R p) (omega (arith, sheet-most, numbers-most R p))
 
       roomed : All Passes (numbers R) → (b : Bool) → leb (length text) (length buffer) ≡ b → StoreBounded (length buffer) number place
       roomed p true e =

@@ -44,9 +44,13 @@ module _ (R : Records) (buffer : List ℕ) (number place : ℕ) (after : List �
     -- "and a sheet that reads is reproduced byte for byte"
     pub reproduced : (bytes : List ℕ) (S : Sheet) → ReadsAs bytes S → R ≡ recordsOf S → length bytes ≤ length buffer → Written bytes
 
--- what number and place can be, for a buffer of `room` bytes: `MAPS_SHEET_MOST` of the C header, 10,760, is enough for every sheet
+-- `MAPS_SHEET_MOST` of the C header
+abbrev pub mapsSheetMost : ℕ
+mapsSheetMost = 11785
+
+-- what number and place can be, for a buffer of `room` bytes: that many are enough for every sheet
 pub record StoreBounded (room number place : ℕ) : Type 0 where
   pub numbers : (number ≡ 0) ⊎ ((number ≡ 3) ⊎ ((number ≡ 4) ⊎ (number ≡ 8)))
-  pub written : number ≡ 0 → place ≤ 10760
-  pub wanted : number ≡ 8 → place ≤ 10760
-  pub enough : 10760 ≤ room → number ≡ 8 → ⊥
+  pub written : number ≡ 0 → place ≤ mapsSheetMost
+  pub wanted : number ≡ 8 → place ≤ mapsSheetMost
+  pub enough : mapsSheetMost ≤ room → number ≡ 8 → ⊥

@@ -1,5 +1,5 @@
 -- Laws for code that writes a sheet part by part: numbers one part after another, and rows of a table in id order.
-use Prim.Native.Nat.{ℕ, zero, suc, _+_, _-_, _*_, _≤_, _<_}
+use Prim.Native.Nat.{ℕ, zero, suc, _+_, _≤_, _<_}
 use mathlib.Core.Path.{_≡_, refl, sym, ap, _∙_}
 use mathlib.Core.List.{List, [], _∷_, _++_, map, append-nil, append-assoc, map-append}
 use native.Mathlib.Omega.{arith}
@@ -7,20 +7,15 @@ use native.Mathlib.Nat.{add-zero}
 use lib.ListN.{length, getD, take, drop, length-append, length-drop, length-map}
 use lib.Seq.{take-suc, getD-drop}
 use Rattle.maps.specs.Lists.{All, below, concat}
-use Rattle.maps.specs.Number.{width, encoded}
+use Rattle.maps.specs.Number.{encoded}
 use Rattle.maps.specs.Write.{Entry, eachNumbers, spelled, Passes, First}
 use Rattle.maps.proofs.Over.{length-below}
 use Rattle.maps.proofs.Member.{All-join}
-use Rattle.maps.proofs.Spelling.{written-length}
 
--- numbers one after the other, and how many bytes they take
+-- numbers one after the other
 pub spelled-append : (ns ms : List ℕ) → spelled (ns ++ ms) ≡ spelled ns ++ spelled ms
 spelled-append [] ms = refl
 spelled-append (n ∷ ns) ms = rw (spelled-append ns ms) (sym (append-assoc (encoded n) (spelled ns) (spelled ms)))
-
-pub spelled-most : (ns : List ℕ) → length (spelled ns) ≤ width * length ns
-spelled-most [] = omega arith
-spelled-most (n ∷ ns) = omega (arith, length-append (encoded n) (spelled ns), written-length (width - 1) n, spelled-most ns)
 
 -- the first fault after numbers that pass, and before any others
 pub first-later : (es ds : List Entry) (k j : ℕ) → All Passes es → First ds k j → First (es ++ ds) k (length es + j)

@@ -9,7 +9,7 @@ pub record Range : Type 0 where
 abbrev pub range : ℕ → ℕ → Range
 range l h = record { low = l; high = h }
 
--- "K (2 to 6), T (1 to 64), H (0 to 4,095), n (1 to 256), m (0 to 1,024)"
+-- "K (2 to 6), T (1 to 64), H .., n (1 to 256), m (0 to 1,024)"; document 02, U2: "H and the size of w may reach 65,535"
 abbrev pub leavesRange : Range
 leavesRange = range 2 6
 
@@ -17,7 +17,7 @@ abbrev pub topRange : Range
 topRange = range 1 64
 
 abbrev pub horizonRange : Range
-horizonRange = range 0 4095
+horizonRange = range 0 65535
 
 abbrev pub sizeRange : Range
 sizeRange = range 1 256
@@ -36,9 +36,9 @@ markRange = range 0 1
 abbrev pub idRange : (size : ℕ) → Range
 idRange n = range 0 (n - 1)
 
--- "w lies in −4,095 to 4,095"
+-- the size of w
 abbrev pub weightMost : ℕ
-weightMost = 4095
+weightMost = horizonRange .high
 
 -- "coded as 2w if w ≥ 0, otherwise −2w − 1"
 abbrev pub weightRange : Range

@@ -29,7 +29,7 @@ Misplaced zero rest = Unit {0}
 Misplaced (suc c) [] = ⊥
 Misplaced (suc c) (b ∷ rest) = (b ≡ 0) ⊎ ((128 ≤ b) × Misplaced c rest)
 
--- a number of at most 1 + g bytes begins here, and "a second byte is 0 or above 127"
+-- a number of more than one byte, and of at most 1 + g, begins here, and its bytes after the first are none
 abbrev pub Misspelt : (g : ℕ) → (rest : List ℕ) → Type 0
 Misspelt g [] = ⊥
 Misspelt g (b ∷ rest) = (128 ≤ b) × Misplaced g rest
@@ -40,7 +40,7 @@ pub data Refuses (bytes : List ℕ) : (number place : ℕ) → Type 0 where
   -- 1, "the sheet ends before a number is complete or present; place: the sheet's length"
   ended : (ns : List ℕ) (r : Rule) (g : ℕ → Form Sheet) (rest : List ℕ) → Leads sheetForm ns (ask r g) → bytes ≡ spelled ns ++ rest
       → Unfinished width rest → Refuses bytes 1 (length bytes)
-  -- 2, "a second byte is 0 or above 127; place: the number's first byte"
+  -- 2, "a last byte of a longer spelling may not be 0, nor a third byte exceed 127" (document 02, U2); "place: the number's first byte"
   misspelt : (ns : List ℕ) (r : Rule) (g : ℕ → Form Sheet) (rest : List ℕ) → Leads sheetForm ns (ask r g) → bytes ≡ spelled ns ++ rest
       → Misspelt (width - 1) rest → Refuses bytes 2 (length (spelled ns))
   -- 3, "a value, u and v included, is outside its range", or 4, "an operand id is not below the node's own"; "same place"

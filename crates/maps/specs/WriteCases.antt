@@ -53,10 +53,10 @@ abbrev two : NodeRecord → Records
 two v = given 2 1 0 (inputNode ∷ v ∷ []) []
 
 abbrev apart : DifferenceRecord → Records
-apart d = given 2 1 4095 (inputNode ∷ []) (d ∷ [])
+apart d = given 2 1 65535 (inputNode ∷ []) (d ∷ [])
 
 abbrev apartSheet : List ℕ → List ℕ
-apartSheet w = (2 ∷ 1 ∷ 0xff ∷ 0x1f ∷ 1 ∷ 1 ∷ 0 ∷ 0 ∷ 0 ∷ 0 ∷ 0 ∷ 0 ∷ 0 ∷ []) ++ w
+apartSheet w = (2 ∷ 1 ∷ 0xff ∷ 0xff ∷ 0x03 ∷ 1 ∷ 1 ∷ 0 ∷ 0 ∷ 0 ∷ 0 ∷ 0 ∷ 0 ∷ 0 ∷ []) ++ w
 
 unfoldable pub cases : List Case
 cases =
@@ -68,8 +68,8 @@ cases =
     ∷ writes (given 3 2 4 [] []) 64 (refusal 3 3)
     ∷ writes (given 3 2 4 (replicate 257 inputNode) (replicate 1025 (gap 0 0 (pos 0)))) 64 (refusal 3 3)
     ∷ writes (given 3 2 4 (inputNode ∷ []) (replicate 1025 (gap 0 0 (pos 0)))) 64 (refusal 3 4)
-    ∷ writes (given 3 20000 4 [] []) 64 (refusal 3 1)
-    ∷ writes (given 3 2 4096 [] []) 64 (refusal 3 2)
+    ∷ writes (given 3 3000000 4 [] []) 64 (refusal 3 1)
+    ∷ writes (given 3 2 65536 [] []) 64 (refusal 3 2)
     -- a node: kind, mark, d, lat; an operand on an input and seven on a table, at the count
     ∷ writes (two (node 3 0 0 0 [])) 64 (refusal 3 10)
     ∷ writes (two (node 0 2 0 0 [])) 64 (refusal 3 11)
@@ -80,15 +80,18 @@ cases =
     ∷ writes (two (node 1 0 1 0 [])) 64 (refusal 3 14)
     -- operands: the node itself, an id without a spelling, the second of two; 4 before 8
     ∷ writes (two (node 1 0 1 0 (1 ∷ []))) 64 (refusal 4 15)
-    ∷ writes (two (node 1 0 1 0 (70000 ∷ []))) 64 (refusal 4 15)
+    ∷ writes (two (node 1 0 1 0 (3000000 ∷ []))) 64 (refusal 4 15)
     ∷ writes (two (node 1 0 1 0 (0 ∷ 1 ∷ []))) 0 (refusal 4 16)
     -- differences: u, v, w; the least and the greatest w
     ∷ writes (apart (gap 1 0 (pos 0))) 64 (refusal 3 10)
     ∷ writes (apart (gap 0 1 (pos 0))) 64 (refusal 3 11)
-    ∷ writes (apart (gap 0 0 (pos 4096))) 64 (refusal 3 12)
-    ∷ writes (apart (gap 0 0 (negsuc 4095))) 64 (refusal 3 12)
-    ∷ writes (apart (gap 0 0 (pos 4095))) 64 (accepted (apartSheet (0xfe ∷ 0x3f ∷ [])))
-    ∷ writes (apart (gap 0 0 (negsuc 4094))) 64 (accepted (apartSheet (0xfd ∷ 0x3f ∷ [])))
+    ∷ writes (apart (gap 0 0 (pos 65536))) 64 (refusal 3 12)
+    ∷ writes (apart (gap 0 0 (negsuc 65535))) 64 (refusal 3 12)
+    ∷ writes (apart (gap 0 0 (pos 65535))) 64 (accepted (apartSheet (0xfe ∷ 0xff ∷ 0x07 ∷ [])))
+    ∷ writes (apart (gap 0 0 (negsuc 65534))) 64 (accepted (apartSheet (0xfd ∷ 0xff ∷ 0x07 ∷ [])))
+    -- the greatest code of two bytes and the least of three
+    ∷ writes (apart (gap 0 0 (negsuc 8191))) 64 (accepted (apartSheet (0xff ∷ 0x7f ∷ [])))
+    ∷ writes (apart (gap 0 0 (pos 8192))) 64 (accepted (apartSheet (0x80 ∷ 0x80 ∷ 0x01 ∷ [])))
     ∷ writes (apart (gap 0 0 (negsuc 0))) 64 (accepted (apartSheet (1 ∷ [])))
     ∷ []
 

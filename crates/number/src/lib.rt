@@ -1,7 +1,8 @@
 // Numbers of a sheet, read at a cursor.
+ghost use Prim.Native.Nat.{_+_, _-_, _<_};
 ghost use mathlib.Core.Path.{_≡_};
 ghost use lib.ListN.{length};
-ghost use Rattle.maps.specs.Number.{number, refusal};
+ghost use Rattle.maps.specs.Number.{width, above, groups, number, refusal};
 ghost use Rattle.maps.specs.Form.{inRange, operand};
 ghost use Rattle.number.specs.Code.{numberMeant};
 ghost use Rattle.ranges.specs.Ranges.{spanMeant, fieldRange};
@@ -35,6 +36,40 @@ fn ended(sheet: &[u8]) -> Number
     Number::Refused(Refusal::Ended(sheet.len()))
 }
 
+// The bytes of a number after the first, at most.
+const MORE: u32 = 2;
+
+// The number at a cursor whose first byte has another after it: `low` is its low group. Each group counts 128 times as much as the one before it.
+fn longer_at(sheet: &[u8], c: Cursor, low: u32) -> Number
+    requires { ⌜ (low < 128) × (c .at < length (now sheet)) ⌝ }
+    ensures { λ r. ⌜ numberMeant r ≡ above low (groups (width - 1) (c .at) (now (sheet .entry)) (c .at + 1)) ⌝ }
+{
+    let mut value = low;
+    let mut unit: u32 = 128;
+    let mut at = c.at + 1;
+    let mut left = MORE;
+    while 0 < left {
+        if sheet.len() <= at {
+            return ended(sheet);
+        }
+        let group = sheet[at] as u32;
+        if group == 0 {
+            return Number::Refused(Refusal::Spelling(c.at));
+        }
+        if group < 128 {
+            return Number::Value {
+                value: value + unit * group,
+                next: Cursor { at: at + 1 },
+            };
+        }
+        value += unit * (group - 128);
+        unit *= 128;
+        at += 1;
+        left -= 1;
+    }
+    Number::Refused(Refusal::Spelling(c.at))
+}
+
 // The number at a cursor.
 pub fn number_at(sheet: &[u8], c: Cursor) -> Number
     ensures { λ r. ⌜ numberMeant r ≡ number (now (sheet .entry)) (c .at) ⌝ }
@@ -44,29 +79,13 @@ pub fn number_at(sheet: &[u8], c: Cursor) -> Number
         return ended(sheet);
     }
     let low = sheet[at] as u32;
-    let after = at + 1;
     if low < 128 {
         return Number::Value {
             value: low,
-            next: Cursor { at: after },
+            next: Cursor { at: at + 1 },
         };
     }
-    if sheet.len() <= after {
-        return ended(sheet);
-    }
-    let high = sheet[after] as u32;
-    if 128 <= high {
-        return Number::Refused(Refusal::Spelling(at));
-    }
-    if high == 0 {
-        return Number::Refused(Refusal::Spelling(at));
-    }
-    let value = low - 128 + 128 * high;
-    let end = after + 1;
-    Number::Value {
-        value,
-        next: Cursor { at: end },
-    }
+    longer_at(sheet, c, low - 128)
 }
 
 // The number at a cursor, in a range.

@@ -127,7 +127,7 @@ pub fn make_plan(sheet: &[u8], bytes: &mut PlanBytes) -> Draft
 pub fn plan(sheet: &[u8], buffer: &mut [u8]) -> Outcome
     ensures { λ r. ⌜ Answered (outcome (now (sheet .entry)) (length (now (buffer .entry)))) (numberAnswered r) (placeAnswered r) (now (buffer .entry)) (now (buffer .exit)) ⌝ }
 {
-    let mut bytes = [0u8; 5122];
+    let mut bytes = [0u8; 7683];
     let draft = make_plan(sheet, &mut bytes);
     match draft {
         Draft::Refused(why) => Outcome::Refused(why),

@@ -53,13 +53,19 @@ pub enum Field {
 const FIELD_RANGES: [Span; 9] = [
     Span { low: 2, high: 6 },
     Span { low: 1, high: 64 },
-    Span { low: 0, high: 4095 },
+    Span {
+        low: 0,
+        high: 65535,
+    },
     Span { low: 1, high: 256 },
     Span { low: 0, high: 1024 },
     Span { low: 0, high: 2 },
     Span { low: 0, high: 1 },
     Span { low: 0, high: 255 },
-    Span { low: 0, high: 8190 },
+    Span {
+        low: 0,
+        high: 131070,
+    },
 ];
 
 // The ranges of a kind, by its code in the sheet; every code from 2 on is a box's.

@@ -15,8 +15,8 @@ use fields::Progress;
 use records::difference_count;
 use records::node_count;
 
-// Room for every number of the longest sheet in two bytes.
-pub type SheetBytes = [u8; 11786];
+// Room for every number of the longest sheet in three bytes.
+pub type SheetBytes = [u8; 17679];
 
 // Makes the sheet, whatever the room.
 pub fn make_sheet(
@@ -66,7 +66,7 @@ pub fn write(
     ensures { λ r. ⌜ Answered (writing (recordsIn leaves top horizon (now (nodes .entry)) (now (operands .entry)) (now (differences .entry))) (length (now (buffer .entry))))
         (numberAnswered r) (placeAnswered r) (now (buffer .entry)) (now (buffer .exit)) ⌝ }
 {
-    let mut bytes = [0u8; 11786];
+    let mut bytes = [0u8; 17679];
     let made = make_sheet(
         leaves,
         top,

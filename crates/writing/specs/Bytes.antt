@@ -7,7 +7,7 @@ use Rattle.maps.specs.Number.{encoded, values}
 use Rattle.bound.specs.Lookup.{countOf}
 use Rattle.cover.specs.Cover.{rowOf}
 
--- every number is one that two bytes spell
+-- every number has a spelling
 pub record Small (latency n : ℕ) (steps levels : List ℕ) : Type 0 where
   pub nodes : n ≤ 256
   pub latest : latency < values

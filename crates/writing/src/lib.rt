@@ -10,7 +10,7 @@ ghost use Rattle.bound.specs.Lookup.{countOf};
 ghost use Rattle.cover.specs.Cover.{Rows, rowOf};
 ghost use Rattle.writing.specs.Bytes.{Small, flatRow, flatPlan};
 ghost use Rattle.bytes.specs.Put.{Put};
-ghost use Rattle.writing.specs.Writing.{planRoom, Writable};
+ghost use Rattle.writing.specs.Writing.{nodeRoom, cutRoom, rowRoom, rowsRoom, planRoom, Writable};
 use bound::Levels;
 use bound::Steps;
 use bound::label_of;
@@ -19,8 +19,8 @@ use level::Cuts;
 use level::leaf_count_in;
 use level::leaf_in;
 
-// Room for the longest plan, and more: every number in two bytes.
-pub type PlanBytes = [u8; 5122];
+// Room for the longest plan, and more: every number in three bytes.
+pub type PlanBytes = [u8; 7683];
 
 // Writes the step, the level and the mark of v.
 fn put_node(
@@ -32,8 +32,8 @@ fn put_node(
     at: usize,
 ) -> usize
     requires { ⌜ (v < 256) × (getD (now steps) v 0 < values) × (getD (now levels) v 0 < values) × (getD (now used) v 0 ≤ 1) ⌝ }
-    requires { ⌜ at + 6 ≤ length (now bytes) ⌝ }
-    ensures { λ r. ⌜ Put 6 (now (bytes .entry)) (now (bytes .exit)) at r
+    requires { ⌜ at + nodeRoom ≤ length (now bytes) ⌝ }
+    ensures { λ r. ⌜ Put nodeRoom (now (bytes .entry)) (now (bytes .exit)) at r
         (encoded (getD (now (steps .entry)) v 0) ++ encoded (getD (now (levels .entry)) v 0) ++ encoded (getD (now (used .entry)) v 0)) ⌝ }
 {
     let label = label_of(steps, levels, v);
@@ -48,8 +48,8 @@ fn put_node(
 // Writes the row of v: the leaf count, then the leaves.
 fn put_cut(cuts: &Cuts, v: u32, bytes: &mut [u8], at: usize) -> usize
     requires { ⌜ (v < 256) × (countOf (now cuts) v ≤ leavesRange .high) × All (λ u. u < 256) (rowOf (now cuts) v) ⌝ }
-    requires { ⌜ at + 14 ≤ length (now bytes) ⌝ }
-    ensures { λ r. ⌜ Put 14 (now (bytes .entry)) (now (bytes .exit)) at r
+    requires { ⌜ at + cutRoom ≤ length (now bytes) ⌝ }
+    ensures { λ r. ⌜ Put cutRoom (now (bytes .entry)) (now (bytes .exit)) at r
         (encoded (countOf (now (cuts .entry)) v) ++ concat (map encoded (rowOf (now (cuts .entry)) v))) ⌝ }
 {
     let count = leaf_count_in(cuts, v);
@@ -74,8 +74,8 @@ fn put_row(
     at: usize,
 ) -> usize
     requires { ⌜ (v < 256) × Writable (now steps) (now levels) (now used) (now cuts) v ⌝ }
-    requires { ⌜ at + 20 ≤ length (now bytes) ⌝ }
-    ensures { λ r. ⌜ Put 20 (now (bytes .entry)) (now (bytes .exit)) at r
+    requires { ⌜ at + rowRoom ≤ length (now bytes) ⌝ }
+    ensures { λ r. ⌜ Put rowRoom (now (bytes .entry)) (now (bytes .exit)) at r
         (flatRow (now (steps .entry)) (now (levels .entry)) (now (used .entry)) (now (cuts .entry)) v) ⌝ }
 {
     let middle = put_node(steps, levels, used, v, bytes, at);
@@ -93,8 +93,8 @@ fn put_rows(
     at: usize,
 ) -> usize
     requires { ⌜ (n ≤ 256) × ((v : ℕ) → v < n → Writable (now steps) (now levels) (now used) (now cuts) v) ⌝ }
-    requires { ⌜ at + 5120 ≤ length (now bytes) ⌝ }
-    ensures { λ r. ⌜ Put 5120 (now (bytes .entry)) (now (bytes .exit)) at r
+    requires { ⌜ at + rowsRoom ≤ length (now bytes) ⌝ }
+    ensures { λ r. ⌜ Put rowsRoom (now (bytes .entry)) (now (bytes .exit)) at r
         (concat (map (flatRow (now (steps .entry)) (now (levels .entry)) (now (used .entry)) (now (cuts .entry))) (below n))) ⌝ }
 {
     let mut to = at;

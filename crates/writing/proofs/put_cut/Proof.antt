@@ -5,7 +5,7 @@ use mathlib.Core.List.{map}
 use native.Mathlib.Omega.{arith}
 use borrow.Author.Needs.{needs}
 use Rattle.maps.specs.Lists.{concat}
-use Rattle.maps.specs.Number.{encoded}
+use Rattle.maps.specs.Number.{width, encoded}
 use Rattle.bound.specs.Lookup.{countOf, leafOf}
 use Rattle.cover.proofs.CoverMarks.{over-get}
 use Rattle.bytes.specs.Put.{Put}
@@ -16,7 +16,7 @@ use Rattle.writing.proofs.put_cut.Tie as tie
 
 abbrev Inv-loop : tie.InvT-loop
 Inv-loop cuts v bytes₀ at count to₀ j₀ bytes to j =
-    (j ≤ count) × (count ≡ countOf cuts v) × Put (j * 2) bytes₀ bytes to₀ to (concat (map encoded (leavesTo cuts v j)))
+    (j ≤ count) × (count ≡ countOf cuts v) × Put (j * width) bytes₀ bytes to₀ to (concat (map encoded (leavesTo cuts v j)))
 
 abbrev μ-loop : tie.MeasureT-loop
 μ-loop cuts v bytes₀ at count to₀ j₀ bytes to j = count - j

@@ -1,9 +1,12 @@
 -- `writing::put_node` meets its contract.
 use mathlib.Core.Path.{ap}
 use native.Mathlib.Omega.{arith}
+use Prim.Native.Nat.{_+_}
 use Rattle.maps.specs.Label.{Label}
+use Rattle.maps.specs.Number.{width}
 use Rattle.bytes.proofs.Putting.{put-then}
 use borrow.Author.Needs.{needs}
+use Rattle.writing.specs.Writing.{nodeRoom}
 use Rattle.writing.proofs.put_node.Statement.{statement}
 use Rattle.writing.proofs.put_node.Tie as tie
 
@@ -28,7 +31,7 @@ returns c =
     let l = first .before .before .before .before .before in
     let s = rw (ap (λ (a : Label). a .step) (l .label-of .ensures)) at (first .put .ensures) in
     let t = rw (ap (λ (a : Label). a .level) (l .label-of .ensures)) at (second .put2 .ensures) in
-    put-then 6 (omega arith) (put-then 4 (omega arith) s t) (third .put3 .ensures)
+    put-then nodeRoom (omega arith) (put-then (width + width) (omega arith) s t) (third .put3 .ensures)
 
 pub put-node-spec : {M : Type 1} → statement M
 put-node-spec =

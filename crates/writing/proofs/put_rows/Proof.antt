@@ -5,6 +5,7 @@ use Prim.Native.Nat.{_-_, _*_, _≤_}
 use mathlib.Core.List.{map}
 use Rattle.maps.specs.Lists.{below, concat}
 use Rattle.writing.specs.Bytes.{flatRow}
+use Rattle.writing.specs.Writing.{rowRoom}
 use Rattle.bytes.specs.Put.{Put}
 use Rattle.bytes.proofs.Putting.{put-none}
 use Rattle.writing.proofs.Putting.{put-next, put-all}
@@ -13,7 +14,7 @@ use Rattle.writing.proofs.put_rows.Tie as tie
 
 abbrev Inv-loop : tie.InvT-loop
 Inv-loop n steps levels used cuts bytes₀ at to₀ v₀ bytes to v =
-    (v ≤ n) × Put (v * 20) bytes₀ bytes at to (concat (map (flatRow steps levels used cuts) (below v)))
+    (v ≤ n) × Put (v * rowRoom) bytes₀ bytes at to (concat (map (flatRow steps levels used cuts) (below v)))
 
 abbrev μ-loop : tie.MeasureT-loop
 μ-loop n steps levels used cuts bytes₀ at to₀ v₀ bytes to v = n - v
