@@ -1,7 +1,7 @@
 /* The calls of the MAPS planner: planning a sheet, and writing a sheet from records.
  *
  * maps_plan reads one sheet and writes one plan; maps_write reads the records of a circuit and writes their sheet. Sheets and plans are as
- * document 01 defines them.
+ * documents 01 and 02 define them.
  *
  * Promised of both, on every input:
  *  - The answer's number is 0 exactly if what is given is accepted and what is to be written fits the buffer. Then it stands at the front of
@@ -37,13 +37,13 @@
 extern "C" {
 #endif
 
-/* Bytes that no plan exceeds: 2 for the latency, 17 for each of 256 nodes (2 for the step, 1 each for level, mark and leaf count, 2 for each
+/* Bytes that no plan exceeds: 3 for the latency, 18 for each of 256 nodes (3 for the step, 1 each for level, mark and leaf count, 2 for each
  * of 6 leaves). */
-#define MAPS_PLAN_MOST 4354
+#define MAPS_PLAN_MOST 4611
 
-/* Bytes that no sheet exceeds: 8 for the header, 18 for each of 256 nodes (1 each for kind, mark, d and operand count, 2 for lat, 2 for each of
- * 6 operands), 6 for each of 1,024 differences. */
-#define MAPS_SHEET_MOST 10760
+/* Bytes that no sheet exceeds: 9 for the header (1 each for K and T, 3 for H, 2 each for n and m), 18 for each of 256 nodes (1 each for kind, mark, d
+ * and operand count, 2 for lat, 2 for each of 6 operands), 7 for each of 1,024 differences (2 each for u and v, 3 for w). */
+#define MAPS_SHEET_MOST 11785
 
 /* Bytes of stack to give a calling thread. It is a bound: a test (tests/tests/stack.rs) reads the frame of each function from the archive, counts
  * a recursive function as often as it can be active at once, adds up the deepest path of calls and holds this number to be no less. */
@@ -60,7 +60,7 @@ struct maps_answer {
 enum maps_number {
     MAPS_ACCEPTED = 0,     /* accepted; place: the length of what was written */
     MAPS_SHEET_ENDS = 1,   /* the sheet ends before a number is complete or present; place: the sheet's length */
-    MAPS_SECOND_BYTE = 2,  /* a second byte is 0 or above 127; place: the number's first byte */
+    MAPS_SPELLING = 2,     /* the last byte of several is 0, or a third byte is above 127; place: the number's first byte */
     MAPS_VALUE = 3,        /* a value, u and v included, is outside its range; place: that number */
     MAPS_OPERAND = 4,      /* an operand id is not below the node's own; place: that number */
     MAPS_BYTES_FOLLOW = 5, /* bytes follow the last number; place: the first of them */
@@ -155,19 +155,19 @@ static inline struct maps_answer maps_write_length(const struct maps_sheet *reco
 /* 1 if the number is 0: the plan or sheet is written or, where its length alone was asked, there is one. Otherwise 0. */
 static inline int maps_accepted(struct maps_answer answer) { return answer.number == MAPS_ACCEPTED; }
 
-/* Document 01's words for a number. */
+/* The documents' words for a number. */
 static inline const char *maps_text(uint64_t number) {
     switch (number) {
     case MAPS_ACCEPTED: return "accepted";
     case MAPS_SHEET_ENDS: return "the sheet ends before a number is complete or present";
-    case MAPS_SECOND_BYTE: return "a second byte is 0 or above 127";
+    case MAPS_SPELLING: return "the last byte of several is 0, or a third byte is above 127";
     case MAPS_VALUE: return "a value, u and v included, is outside its range";
     case MAPS_OPERAND: return "an operand id is not below the node's own";
     case MAPS_BYTES_FOLLOW: return "bytes follow the last number";
     case MAPS_NO_CUT: return "a logic node has no fitting cut";
     case MAPS_LATE: return "no legal labelling within H";
     case MAPS_BUFFER_SHORT: return "the buffer is shorter than what would be written";
-    default: return "no number of document 01";
+    default: return "no number of the documents";
     }
 }
 

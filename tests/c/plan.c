@@ -1,6 +1,6 @@
-/* A caller in C: the hall sheet of document 01 byte for byte, every number from 0 to 8 with its place, exact and short buffers, known bytes
- * round the buffer, and the length of a plan. It counts cases, each of several comparisons. From the folder that holds include/, tests/ and
- * target/:
+/* A caller in C: the hall sheet of document 01 byte for byte, every number from 0 to 8 with its place, numbers of three bytes, exact and short
+ * buffers, known bytes round the buffer, and the length of a plan. It counts cases, each of several comparisons. From the folder that holds include/,
+ * tests/ and target/:
  *
  *   gcc -std=c11 -Wall -Wextra -Wpedantic -Werror -Wconversion -Wshadow -Iinclude tests/c/plan.c -Ltarget/staticlib -lplanner -o target/plan_c
  */
@@ -66,14 +66,30 @@ static void grounds(void) {
     check(holds, "1: every part of hall");
     static const uint8_t half[] = {0x80};
     expect("1: 80 at the end", half, sizeof half, MAPS_SHEET_ENDS, 1, NULL);
+    static const uint8_t two_thirds[] = {0x80, 0x80};
+    expect("1: 80 80 at the end", two_thirds, sizeof two_thirds, MAPS_SHEET_ENDS, 2, NULL);
+    static const uint8_t late_end[] = {0x03, 0x02, 0xff, 0xff};
+    expect("1: ff ff at the end, the third number", late_end, sizeof late_end, MAPS_SHEET_ENDS, 4, NULL);
     static const uint8_t zero_second[] = {0x80, 0x00};
-    expect("2: 80 00", zero_second, sizeof zero_second, MAPS_SECOND_BYTE, 0, NULL);
-    static const uint8_t great_second[] = {0x80, 0x80};
-    expect("2: 80 80", great_second, sizeof great_second, MAPS_SECOND_BYTE, 0, NULL);
-    static const uint8_t greatest_number[] = {0xff, 0x7f};
-    expect("3: ff 7f as K", greatest_number, sizeof greatest_number, MAPS_VALUE, 0, NULL);
+    expect("2: 80 00", zero_second, sizeof zero_second, MAPS_SPELLING, 0, NULL);
+    static const uint8_t zero_third[] = {0x80, 0x80, 0x00};
+    expect("2: 80 80 00", zero_third, sizeof zero_third, MAPS_SPELLING, 0, NULL);
+    static const uint8_t great_third[] = {0x80, 0x80, 0x80};
+    expect("2: 80 80 80", great_third, sizeof great_third, MAPS_SPELLING, 0, NULL);
+    static const uint8_t four_bytes[] = {0x80, 0x80, 0x80, 0x01};
+    expect("2: 80 80 80 01", four_bytes, sizeof four_bytes, MAPS_SPELLING, 0, NULL);
+    static const uint8_t spelling_first[] = {0x81, 0x80, 0x00};
+    expect("2: 81 80 00 as K, before its value", spelling_first, sizeof spelling_first, MAPS_SPELLING, 0, NULL);
+    static const uint8_t greatest_of_two[] = {0xff, 0x7f};
+    expect("3: ff 7f as K", greatest_of_two, sizeof greatest_of_two, MAPS_VALUE, 0, NULL);
+    static const uint8_t least_of_three[] = {0x80, 0x80, 0x01};
+    expect("3: 80 80 01 as K", least_of_three, sizeof least_of_three, MAPS_VALUE, 0, NULL);
+    static const uint8_t greatest_number[] = {0xff, 0xff, 0x7f};
+    expect("3: ff ff 7f as K", greatest_number, sizeof greatest_number, MAPS_VALUE, 0, NULL);
     static const uint8_t late_spelling[] = {0x03, 0x02, 0x84, 0x00};
-    expect("2: the third number", late_spelling, sizeof late_spelling, MAPS_SECOND_BYTE, 2, NULL);
+    expect("2: the third number", late_spelling, sizeof late_spelling, MAPS_SPELLING, 2, NULL);
+    static const uint8_t late_third[] = {0x03, 0x02, 0x84, 0x80, 0x00};
+    expect("2: a third byte of the third number", late_third, sizeof late_third, MAPS_SPELLING, 2, NULL);
     changed("3: K = 7", 0, 7, MAPS_VALUE, 0);
     changed("3: T = 0", 1, 0, MAPS_VALUE, 1);
     changed("3: kind 3", 5, 3, MAPS_VALUE, 5);
@@ -88,6 +104,71 @@ static void grounds(void) {
     static const uint8_t wide[] = {2, 1, 0, 4, 0, 0, 0, 0, 0, 0, 0, 0, 0, 0, 0, 0, 0, 0, 0, 0, 1, 1, 1, 0, 3, 0, 1, 2};
     expect("6: node 3 reads three inputs, K = 2", wide, sizeof wide, MAPS_NO_CUT, 3, NULL);
     changed("7: hall with H = 0", 2, 0, MAPS_LATE, 0);
+}
+
+/* A number of three bytes. */
+struct three {
+    uint8_t bytes[3];
+};
+
+/* The hall sheet with the three bytes of H, and of its w. */
+static void stretch(uint8_t sheet[sizeof HALL + 4], struct three h, struct three w) {
+    memcpy(sheet, HALL, 2);
+    memcpy(sheet + 2, h.bytes, 3);
+    memcpy(sheet + 5, HALL + 3, sizeof HALL - 4);
+    memcpy(sheet + sizeof HALL + 1, w.bytes, 3);
+}
+
+/* One case: the hall sheet with this H and w is refused. */
+static void refused(const char *name, struct three h, struct three w, uint64_t number, uint64_t place) {
+    uint8_t sheet[sizeof HALL + 4];
+    stretch(sheet, h, w);
+    expect(name, sheet, sizeof sheet, number, place, NULL);
+}
+
+/* One case: the hall sheet with this H and w has its plan but for the latency and the step of node 5, which are given; in an ample buffer, in an
+ * exact one and in one that is a byte short. */
+static void stretched(const char *name, struct three h, struct three w, struct three step) {
+    uint8_t sheet[sizeof HALL + 4], plan[sizeof HALL_PLAN + 4];
+    stretch(sheet, h, w);
+    memcpy(plan, step.bytes, 3);
+    memcpy(plan + 3, HALL_PLAN + 1, 22);
+    memcpy(plan + 25, step.bytes, 3);
+    memcpy(plan + 28, HALL_PLAN + 24, 5);
+    int holds = planned(sheet, sizeof sheet, ROOM, MAPS_ACCEPTED, sizeof plan, plan);
+    holds = planned(sheet, sizeof sheet, sizeof plan, MAPS_ACCEPTED, sizeof plan, plan) && holds;
+    holds = planned(sheet, sizeof sheet, sizeof plan - 1, MAPS_BUFFER_SHORT, sizeof plan, NULL) && holds;
+    check(same(maps_plan_length(sheet, sizeof sheet), MAPS_ACCEPTED, sizeof plan) && holds, name);
+}
+
+/* H and w of three bytes, and plans with such a latency and step. */
+static void horizons(void) {
+    static const struct three h_16384 = {{0x80, 0x80, 0x01}}, h_65534 = {{0xfe, 0xff, 0x03}}, h_65535 = {{0xff, 0xff, 0x03}};
+    static const struct three h_65536 = {{0x80, 0x80, 0x04}}, greatest = {{0xff, 0xff, 0x7f}};
+    static const struct three w_16384 = {{0x80, 0x80, 0x02}}, w_65535 = {{0xfe, 0xff, 0x07}}, w_65536 = {{0x80, 0x80, 0x08}};
+    static const struct three w_minus_65535 = {{0xfd, 0xff, 0x07}}, w_minus_65536 = {{0xff, 0xff, 0x07}};
+    stretched("H = w = 16,384", h_16384, w_16384, h_16384);
+    stretched("H = 65,535, w = 16,384", h_65535, w_16384, h_16384);
+    stretched("H = w = 65,535", h_65535, w_65535, h_65535);
+    refused("7: H = 65,534, w = 65,535", h_65534, w_65535, MAPS_LATE, 0);
+    refused("7: H = 16,384, w = 65,535", h_16384, w_65535, MAPS_LATE, 0);
+    refused("3: H = 65,536", h_65536, w_16384, MAPS_VALUE, 2);
+    refused("3: H = 2,097,151", greatest, w_16384, MAPS_VALUE, 2);
+    refused("3: w = 65,536", h_65535, w_65536, MAPS_VALUE, sizeof HALL + 1);
+    refused("3: w = -65,536", h_65535, w_minus_65536, MAPS_VALUE, sizeof HALL + 1);
+    refused("3: w, the greatest number", h_65535, greatest, MAPS_VALUE, sizeof HALL + 1);
+    /* Node 5 is (0, 1) with leaves 0 1 2, as without the difference. */
+    static const uint8_t early[] = {0, 0, 0, 1, 0, 0, 0, 1, 0, 0, 0, 1, 0, 0, 1, 0, 0, 0, 1, 0, 0, 0, 1, 1, 3, 0, 1, 2};
+    uint8_t sheet[sizeof HALL + 4];
+    stretch(sheet, h_65535, w_minus_65535);
+    expect("H = 65,535, w = -65,535", sheet, sizeof sheet, MAPS_ACCEPTED, sizeof early, early);
+    /* The hall sheet with three bytes for H alone. */
+    static const struct three padded = {{0x84, 0x80, 0x00}};
+    stretch(sheet, h_65535, w_65535);
+    sheet[sizeof HALL + 1] = HALL[sizeof HALL - 1];
+    expect("hall with H = 65,535", sheet, sizeof HALL + 2, MAPS_ACCEPTED, sizeof HALL_PLAN, HALL_PLAN);
+    memcpy(sheet + 2, padded.bytes, 3);
+    expect("2: 84 80 00 as H", sheet, sizeof HALL + 2, MAPS_SPELLING, 2, NULL);
 }
 
 /* Sheets and buffers of length 0, and a plan's length. */
@@ -115,11 +196,13 @@ static void words(void) {
     }
     check(differ, "words that differ");
     check(strcmp(maps_text(MAPS_LATE), "no legal labelling within H") == 0, "words of 7");
+    check(strcmp(maps_text(MAPS_SPELLING), "the last byte of several is 0, or a third byte is above 127") == 0, "words of 2");
 }
 
 int main(void) {
     hall();
     grounds();
+    horizons();
     lengths();
     words();
     return counted();

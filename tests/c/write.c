@@ -61,10 +61,12 @@ static int answered(uint64_t number, uint64_t place, const uint8_t *sheet) {
 /* One case of the records as they are. */
 static void expect(const char *name, uint64_t number, uint64_t place, const uint8_t *sheet) { check(answered(number, place, sheet), name); }
 
-/* One case: the records with one number changed, to the two values given and to others that no sheet has, are refused there. */
+/* One case: the records with one number changed, to the two values given and to others that no sheet has there, are refused there. Only H may have
+ * three bytes. */
 static void wrong(const char *name, uint32_t *field, uint32_t one, uint32_t other, uint64_t number, uint64_t place) {
     const uint32_t right = *field;
-    const uint32_t values[] = {one, other, 16384, right + 0x10000, right + 0x80000000u, UINT32_MAX};
+    const uint32_t of_three = field == &records.horizon ? 65536 : 16384;
+    const uint32_t values[] = {one, other, of_three, 2097151, 2097152, right + 0x10000, right + 0x80000000u, UINT32_MAX};
     int holds = 1;
     for (size_t i = 0; i < sizeof values / sizeof *values; i++) {
         *field = values[i];
@@ -100,7 +102,7 @@ static void values(void) {
     hall();
     wrong("3: K", &records.leaves, 1, 7, MAPS_VALUE, 0);
     wrong("3: T", &records.top, 0, 65, MAPS_VALUE, 1);
-    wrong("3: H", &records.horizon, 4096, 8192, MAPS_VALUE, 2);
+    wrong("3: H", &records.horizon, 65537, 131072, MAPS_VALUE, 2);
     wrong("3: kind", &nodes[3].kind, 3, 4, MAPS_VALUE, NODE_3 + KIND);
     wrong("3: mark", &nodes[5].output, 2, 255, MAPS_VALUE, NODE_5 + MARK);
     wrong("3: d of an input", &nodes[0].delay, 1, 2, MAPS_VALUE, NODE_0 + DELAY);
@@ -112,13 +114,77 @@ static void values(void) {
     nodes[4].kind = MAPS_BOX;
     wrong("3: d of a box", &nodes[4].delay, 3, 64, MAPS_VALUE, NODE_4 + DELAY);
     wrong("3: lat of a box", &nodes[4].latency, 256, 257, MAPS_VALUE, NODE_4 + LATENCY);
-    static const int32_t weights[] = {4096, -4096, 8191, -8192, 65536, -65536, INT32_MAX, INT32_MIN};
+    static const int32_t weights[] = {65536, -65536, 131071, -131072, 1048576, -1048576, INT32_MAX, INT32_MIN};
     int holds = 1;
     for (size_t i = 0; i < sizeof weights / sizeof *weights; i++) {
         differences[0].weight = weights[i];
         holds = answered(MAPS_VALUE, DIFFERENCE + 2, NULL) && holds;
     }
     check(holds, "3: w");
+}
+
+/* H and w at the ends of one, two and three bytes, as they stand in the sheet. */
+static void stored(void) {
+    static const struct {
+        uint32_t value;
+        size_t length;
+        uint8_t bytes[3];
+    } horizons[] = {
+        {0, 1, {0}},
+        {127, 1, {0x7f}},
+        {128, 2, {0x80, 0x01}},
+        {4095, 2, {0xff, 0x1f}},
+        {4096, 2, {0x80, 0x20}},
+        {16383, 2, {0xff, 0x7f}},
+        {16384, 3, {0x80, 0x80, 0x01}},
+        {65535, 3, {0xff, 0xff, 0x03}},
+    };
+    static const struct {
+        int32_t value;
+        size_t length;
+        uint8_t bytes[3];
+    } weights[] = {
+        {-64, 1, {0x7f}},
+        {64, 2, {0x80, 0x01}},
+        {4096, 2, {0x80, 0x40}},
+        {-4096, 2, {0xff, 0x3f}},
+        {-8192, 2, {0xff, 0x7f}},
+        {8192, 3, {0x80, 0x80, 0x01}},
+        {65535, 3, {0xfe, 0xff, 0x07}},
+        {-65535, 3, {0xfd, 0xff, 0x07}},
+    };
+    uint8_t sheet[sizeof HALL + 4];
+    int holds = 1;
+    hall();
+    for (size_t i = 0; i < sizeof horizons / sizeof *horizons; i++) {
+        size_t length = horizons[i].length;
+        records.horizon = horizons[i].value;
+        memcpy(sheet, HALL, 2);
+        memcpy(sheet + 2, horizons[i].bytes, length);
+        memcpy(sheet + 2 + length, HALL + 3, sizeof HALL - 3);
+        holds = answered(MAPS_ACCEPTED, sizeof HALL - 1 + length, sheet) && holds;
+    }
+    check(holds, "H of one, two and three bytes");
+    holds = 1;
+    hall();
+    for (size_t i = 0; i < sizeof weights / sizeof *weights; i++) {
+        size_t length = weights[i].length;
+        differences[0].weight = weights[i].value;
+        memcpy(sheet, HALL, sizeof HALL - 1);
+        memcpy(sheet + sizeof HALL - 1, weights[i].bytes, length);
+        holds = answered(MAPS_ACCEPTED, sizeof HALL - 1 + length, sheet) && holds;
+    }
+    check(holds, "w of one, two and three bytes");
+    /* The plan of what was written: node 5 at the greatest step. */
+    hall();
+    records.horizon = 65535;
+    differences[0].weight = 65535;
+    static const uint8_t step[3] = {0xff, 0xff, 0x03};
+    uint8_t plan[MAPS_PLAN_MOST];
+    holds = same(maps_write(&records, sheet, sizeof sheet), MAPS_ACCEPTED, sizeof sheet);
+    holds = same(maps_plan(sheet, sizeof sheet, plan, sizeof plan), MAPS_ACCEPTED, sizeof HALL_PLAN + 4) && holds;
+    holds = memcmp(plan, step, sizeof step) == 0 && memcmp(plan + 25, step, sizeof step) == 0 && holds;
+    check(holds, "the greatest H and w, written and planned");
 }
 
 /* Ground 3 at the counts, which are how many were given. */
@@ -158,7 +224,7 @@ static void order(void) {
     /* From the last number to the first. */
     hall();
     int holds = 1;
-    differences[0].weight = 5000;
+    differences[0].weight = 70000;
     holds = answered(MAPS_VALUE, DIFFERENCE + 2, NULL) && holds;
     differences[0].to = 6;
     holds = answered(MAPS_VALUE, DIFFERENCE + 1, NULL) && holds;
@@ -174,7 +240,7 @@ static void order(void) {
     holds = answered(MAPS_VALUE, 4, NULL) && holds;
     records.node_count = 0;
     holds = answered(MAPS_VALUE, 3, NULL) && holds;
-    records.horizon = 4096;
+    records.horizon = 65536;
     holds = answered(MAPS_VALUE, 2, NULL) && holds;
     records.leaves = 7;
     holds = answered(MAPS_VALUE, 0, NULL) && holds;
@@ -186,6 +252,9 @@ static void order(void) {
     differences[1].from = 6;
     records.difference_count = 2;
     expect("3: a number after numbers of two bytes", MAPS_VALUE, DIFFERENCE + 3, NULL);
+    records.horizon = 30000;
+    differences[0].weight = -10000;
+    expect("3: a number after numbers of three bytes", MAPS_VALUE, DIFFERENCE + 3, NULL);
 }
 
 /* Ends of operands that fall or lie past the array, pointers that are null, and rows that are not complete. */
@@ -223,7 +292,7 @@ static void rows(void) {
     check(holds, "rows that are not complete are ignored");
 }
 
-/* The longest sheet: 256 nodes, boxes of six operands past node 0, 1,024 differences, two bytes wherever a number may have them. */
+/* The longest sheet: 256 nodes, boxes of six operands past node 0, 1,024 differences, as many bytes as a number may have. */
 static void longest(void) {
     hall();
     for (uint32_t v = 0; v < 256; v++) {
@@ -233,22 +302,31 @@ static void longest(void) {
         }
     }
     for (size_t i = 0; i < 1024; i++) {
-        differences[i] = (struct maps_difference){255, 128, i % 2 == 0 ? 4095 : -4095};
+        differences[i] = (struct maps_difference){255, 128, i % 2 == 0 ? 65535 : -65535};
     }
-    records = (struct maps_sheet){6, 64, 4095, nodes, 256, operands, 6 * 255, differences, 1024};
+    records = (struct maps_sheet){6, 64, 65535, nodes, 256, operands, 6 * 255, differences, 1024};
     /* Node 0 has 6 bytes, nodes 1 to 128 have 12 and the others 18. */
-    size_t length = 8 + 6 + 128 * 12 + 127 * 18 + 1024 * 6;
+    size_t length = 9 + 6 + 128 * 12 + 127 * 18 + 1024 * 7;
     expect("the longest sheet", MAPS_ACCEPTED, length, NULL);
     check(length <= MAPS_SHEET_MOST && written(length, MAPS_ACCEPTED, length, NULL), "the longest sheet, exact buffer");
     check(written(length - 1, MAPS_BUFFER_SHORT, length, NULL), "8: the longest sheet, one byte short");
     uint8_t sheet[MAPS_SHEET_MOST];
     struct maps_answer answer = maps_write(&records, sheet, sizeof sheet);
     check(maps_accepted(answer) && same(maps_plan_length(sheet, (size_t)answer.place), MAPS_LATE, 0), "the longest sheet reads");
+    /* Without a w that is above 0 box v is at step 255 v: one byte at node 0, two up to node 64, three from there. */
+    for (size_t i = 0; i < 1024; i += 2) {
+        differences[i].weight = -65535;
+    }
+    size_t plan_length = 3 + 4 + 64 * 5 + 191 * 6;
+    answer = maps_write(&records, sheet, sizeof sheet);
+    int holds = same(answer, MAPS_ACCEPTED, length);
+    check(same(maps_plan_length(sheet, (size_t)answer.place), MAPS_ACCEPTED, plan_length) && holds, "the longest sheet, planned");
 }
 
 int main(void) {
     the_hall();
     values();
+    stored();
     counts();
     order();
     rows();

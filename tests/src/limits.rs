@@ -1,22 +1,29 @@
-//! The ranges of document 01's section "The sheet", each from its least to its greatest value, for the tests' own reader and for
-//! the test of each limit.
+//! The ranges of document 01's section "The sheet", with the H, w and numbers of document 02 (U2), each from its least to its greatest value, for the
+//! tests' own reader and for the test of each limit.
 
 /// From the least to the greatest value.
 pub type Range = (u32, u32);
 
 pub const K: Range = (2, 6);
 pub const T: Range = (1, 64);
-pub const H: Range = (0, 4_095);
+pub const H: Range = (0, 65_535);
 pub const N: Range = (1, 256);
 pub const M: Range = (0, 1_024);
 pub const KIND: Range = (0, 2);
 pub const MARK: Range = (0, 1);
 /// w lies in −W to W.
-pub const W: u32 = 4_095;
+pub const W: u32 = 65_535;
 /// The code of w: 2w or −2w − 1.
 pub const CODE: Range = (0, 2 * W);
+/// The numbers of one, of two and of three bytes.
+pub const SIZES: [Range; 3] = [(0, 127), (128, 16_383), (16_384, 2_097_151)];
 /// The greatest number that has a spelling.
-pub const NUMBER: u32 = 16_383;
+pub const NUMBER: u32 = SIZES[2].1;
+
+/// How many bytes the spelling of a number has.
+pub fn width(value: u32) -> usize {
+    1 + SIZES.iter().position(|&(low, high)| (low..=high).contains(&value)).expect("a number that has a spelling")
+}
 
 /// The row of a kind in the table of fields: d, lat and the count of operands.
 pub struct Fields {

@@ -1,16 +1,17 @@
 //! Made-up sheets: within the ranges, and damaged in one place.
-use crate::limits::{fields, Range, H, K, M, N, NUMBER, T, W};
+use crate::limits::{fields, width, Range, CODE, H, K, M, N, NUMBER, SIZES, T, W};
 use crate::random::Random;
 use crate::reader::{Difference, Node, Sheet};
 
 /// Appends the spelling of a number.
 pub fn put(bytes: &mut Vec<u8>, value: u32) {
-    if value < 128 {
-        bytes.push(value as u8);
-    } else {
-        bytes.push(128 | (value & 127) as u8);
-        bytes.push((value >> 7) as u8);
+    assert!(value <= NUMBER, "{value} has no spelling");
+    let mut rest = value;
+    while rest > 127 {
+        bytes.push(128 | (rest & 127) as u8);
+        rest >>= 7;
     }
+    bytes.push(rest as u8);
 }
 
 /// The numbers of a sheet, in its order.
@@ -21,11 +22,20 @@ pub fn numbers(sheet: &Sheet) -> Vec<u32> {
         all.extend(&node.operands);
     }
     for difference in &sheet.differences {
-        let w = difference.weight;
-        let code = if w >= 0 { 2 * w } else { -2 * w - 1 };
-        all.extend([difference.from, difference.to, code as u32]);
+        all.extend([difference.from, difference.to, code(difference.weight)]);
     }
     all
+}
+
+/// The code of a w.
+pub fn code(w: i32) -> u32 {
+    (if w >= 0 { 2 * w } else { -2 * w - 1 }) as u32
+}
+
+/// The w of a code.
+pub fn weight(code: u32) -> i32 {
+    let half = (code / 2) as i32;
+    if code % 2 == 0 { half } else { -half - 1 }
 }
 
 pub fn spelled(numbers: &[u32]) -> Vec<u8> {
@@ -36,14 +46,30 @@ pub fn spelled(numbers: &[u32]) -> Vec<u8> {
     bytes
 }
 
+/// The bytes of a sheet with other bytes in the place of the number at an index.
+pub fn respelled(numbers: &[u32], index: usize, spelling: &[u8]) -> Vec<u8> {
+    [&spelled(&numbers[..index]), spelling, &spelled(&numbers[index + 1..])].concat()
+}
+
 /// A value of a range, both ends included.
 fn any(random: &mut Random, (low, high): Range) -> u32 {
     random.within(low, high)
 }
 
+/// A value of a range, of each count of bytes as often.
+fn of_any_size(random: &mut Random, (low, high): Range) -> u32 {
+    let size = SIZES[random.within(width(low) as u32, width(high) as u32) as usize - 1];
+    random.within(low.max(size.0), high.min(size.1))
+}
+
+/// Any H.
+fn any_horizon(random: &mut Random) -> u32 {
+    of_any_size(random, H)
+}
+
 /// Any w.
 fn any_weight(random: &mut Random) -> i32 {
-    random.within(0, 2 * W) as i32 - W as i32
+    weight(of_any_size(random, CODE))
 }
 
 fn node(random: &mut Random, own: u32, top: u32) -> Node {
@@ -61,36 +87,48 @@ fn node(random: &mut Random, own: u32, top: u32) -> Node {
 
 /// A sheet with all values in their ranges, of up to `most` nodes.
 pub fn sheet(random: &mut Random, most: u32) -> Sheet {
+    sheet_with(random, most, any_horizon, any_weight)
+}
+
+/// The same, where `horizon` draws H and `weight` each w.
+fn sheet_with(random: &mut Random, most: u32, horizon: impl Fn(&mut Random) -> u32, weight: impl Fn(&mut Random) -> i32) -> Sheet {
     let top = any(random, T);
     let n = random.within(1, most);
     let nodes = (0..n).map(|own| node(random, own, top)).collect();
     let m = random.within(0, 4 * most.min(M.1 / 4));
     let differences =
-        (0..m).map(|_| Difference { from: random.within(0, n - 1), to: random.within(0, n - 1), weight: any_weight(random) }).collect();
-    Sheet { leaves: any(random, K), top, horizon: any(random, H), nodes, differences }
+        (0..m).map(|_| Difference { from: random.within(0, n - 1), to: random.within(0, n - 1), weight: weight(random) }).collect();
+    Sheet { leaves: any(random, K), top, horizon: horizon(random), nodes, differences }
 }
 
-/// A sheet within the ranges of nearly `most` nodes, a tenth fewer at the least.
-pub fn nearly(random: &mut Random, most: u32) -> Sheet {
+/// A sheet of nearly `most` nodes, a tenth fewer at the least, with H and the size of w up to `far`.
+pub fn nearly(random: &mut Random, most: u32, far: u32) -> Sheet {
     loop {
-        let whole = sheet(random, most);
+        let whole = sheet_with(random, most, |random| random.within(0, far), |random| random.within(0, 2 * far) as i32 - far as i32);
         if whole.nodes.len() as u32 >= most * 9 / 10 {
             return whole;
         }
     }
 }
 
-/// The bytes of a sheet with one thing wrong: a number, a byte, or the length.
+/// A byte at an end of what a byte of a number may be, or any byte.
+fn odd_byte(random: &mut Random) -> u8 {
+    match random.within(0, 6) {
+        6 => random.next() as u8,
+        i => [0, 1, 127, 128, 129, 255][i as usize],
+    }
+}
+
+/// The bytes of a sheet with one thing wrong: a number, its spelling, a byte, or the length.
 pub fn damaged(random: &mut Random, sheet: &Sheet) -> Vec<u8> {
     let mut all = numbers(sheet);
-    match random.within(0, 4) {
+    let i = random.within(0, all.len() as u32 - 1) as usize;
+    match random.within(0, 5) {
         0 => {
-            let i = random.within(0, all.len() as u32 - 1) as usize;
-            all[i] = random.within(0, NUMBER);
+            all[i] = of_any_size(random, (0, NUMBER));
             spelled(&all)
         }
         1 => {
-            let i = random.within(0, all.len() as u32 - 1) as usize;
             all[i] = (all[i] + 1) & NUMBER;
             spelled(&all)
         }
@@ -105,6 +143,15 @@ pub fn damaged(random: &mut Random, sheet: &Sheet) -> Vec<u8> {
             bytes.truncate(random.within(0, bytes.len() as u32 - 1) as usize);
             bytes
         }
+        4 => {
+            let spelling: Vec<u8> = (0..random.within(1, 4)).map(|_| odd_byte(random)).collect();
+            let mut bytes = respelled(&all, i, &spelling);
+            // Sometimes the sheet ends there.
+            if random.once_in(3) {
+                bytes.truncate(spelled(&all[..i]).len() + spelling.len());
+            }
+            bytes
+        }
         _ => {
             let mut bytes = spelled(&all);
             for _ in 0..random.within(1, 3) {
@@ -115,8 +162,13 @@ pub fn damaged(random: &mut Random, sheet: &Sheet) -> Vec<u8> {
     }
 }
 
-/// A sheet at every limit: 256 nodes of six operands, 1,024 differences, values spelled with two bytes wherever their range allows.
+/// A sheet at every limit: 256 nodes of six operands, 1,024 differences, values with as many bytes as their range allows.
 pub fn greatest(random: &mut Random) -> Sheet {
+    greatest_up_to(random, H.1)
+}
+
+/// The same where H and the size of each w are `far`.
+pub fn greatest_up_to(random: &mut Random, far: u32) -> Sheet {
     let nodes = (0..N.1)
         .map(|own| {
             let operands: Vec<u32> = if own == 0 { Vec::new() } else { (0..6).map(|_| own - 1 - random.within(0, (own - 1).min(7))).collect() };
@@ -125,9 +177,9 @@ pub fn greatest(random: &mut Random) -> Sheet {
             Node { kind, output: true, delay: fields.delay.1, latency: fields.latency.1, operands }
         })
         .collect();
-    let weight = |i: u32| if i % 2 == 0 { W as i32 } else { -(W as i32) };
+    let weight = |i: u32| if i % 2 == 0 { far as i32 } else { -(far as i32) };
     let differences = (0..M.1).map(|i| Difference { from: 255 - i % 128, to: 128 + i % 128, weight: weight(i) }).collect();
-    Sheet { leaves: K.1, top: T.1, horizon: H.1, nodes, differences }
+    Sheet { leaves: K.1, top: T.1, horizon: far, nodes, differences }
 }
 
 /// An input that is no output.
@@ -228,6 +280,37 @@ fn shuffled(random: &mut Random, n: u32) -> Vec<u32> {
     all
 }
 
+/// A legal small sheet with a path of differences through some of its nodes that leads up to about H, or to some step below it; H is of any size, and
+/// often the greatest. A difference may lead back from the path's end to its start, with room, with hardly any, or so that few turns pass H.
+pub fn long(random: &mut Random) -> Sheet {
+    let mut sheet = small(random, &Size { nodes: 9, top: 4, horizon: 0, latency: 3, wide: false });
+    sheet.differences.retain(|d| d.from < d.to);
+    sheet.horizon = if random.once_in(3) { H.1 - random.within(0, 2) } else { any_horizon(random) };
+    let near = !random.once_in(3);
+    let whole = if near { (sheet.horizon + random.within(0, 9)).saturating_sub(5) } else { random.within(0, sheet.horizon) };
+    let mut path = shuffled(random, sheet.nodes.len() as u32);
+    path.truncate(random.within(2, 5) as usize);
+    if !random.once_in(4) {
+        path.sort();
+    }
+    let mut left = whole;
+    for i in 1..path.len() {
+        let part = if i + 1 == path.len() { left.min(W) } else { random.within(0, left.min(W)) };
+        sheet.differences.push(Difference { from: path[i - 1], to: path[i], weight: part as i32 });
+        left -= part;
+    }
+    if random.once_in(2) {
+        let gain = match random.once_in(2) {
+            true => -(random.within(40, 60) as i32),
+            false if near => random.within(0, 4) as i32 - 2,
+            false => sheet.horizon as i32 / 8,
+        };
+        let weight = (gain - whole as i32).max(-(W as i32));
+        sheet.differences.push(Difference { from: path[path.len() - 1], to: path[0], weight });
+    }
+    sheet
+}
+
 /// A sheet of up to `most` nodes, inputs below and boxes above them, with a ring of differences through many of its nodes in any order, rising or
 /// falling: the ring pushes operands on which it rests, so that labels settle after many rounds or never. With `tables` some boxes are tables.
 pub fn ring(random: &mut Random, most: u32, tables: bool) -> Sheet {
@@ -270,8 +353,9 @@ pub fn variant(random: &mut Random, latency: u32, weight: impl Fn(u32) -> (u32, 
     sheet
 }
 
-/// 256 nodes, each reading the one below it six times, tables and boxes in turn; the first `slow` boxes have lat = 255.
-pub fn chain(slow: u32) -> Sheet {
+/// 256 nodes, each reading the one below it six times, tables and boxes in turn; the first `slow` boxes have lat = 255. H is `far`, and each w its
+/// negative.
+pub fn chain(slow: u32, far: u32) -> Sheet {
     let nodes = (0..256u32)
         .map(|own| match own {
             0 => input(),
@@ -279,11 +363,12 @@ pub fn chain(slow: u32) -> Sheet {
             _ => Node { kind: 2, output: false, delay: 0, latency: if own <= 2 * slow { 255 } else { 0 }, operands: vec![own - 1; 6] },
         })
         .collect();
-    let differences = (0..1024).map(|i| Difference { from: i % 256, to: i / 4, weight: -4095 }).collect();
-    Sheet { leaves: 6, top: 64, horizon: 4095, nodes, differences }
+    let differences = (0..1024).map(|i| Difference { from: i % 256, to: i / 4, weight: -(far as i32) }).collect();
+    Sheet { leaves: 6, top: 64, horizon: far, nodes, differences }
 }
 
-/// A sheet of 256 nodes, mostly tables, whose operands reach near or far down and whose differences are many, few or none, by the round.
+/// A sheet of 256 nodes, mostly tables, whose operands reach near or far down and whose differences are many, few or none, by the round. H and the
+/// size of w go up to 4,095 in some rounds, and up to their limit in others, where a few differences are long.
 pub fn large(random: &mut Random, round: usize) -> Sheet {
     let top = if round % 4 == 0 { 64 } else { random.within(1, 64) };
     let reach = [4, 12, 40, 255][round % 4];
@@ -298,16 +383,20 @@ pub fn large(random: &mut Random, round: usize) -> Sheet {
         })
         .collect();
     let m = [0, 256, 1024, 1024][round / 4 % 4];
+    let far = [4_095, H.1][round / 16 % 2];
     let differences = (0..m)
         .map(|i| {
             let (a, b) = (random.within(0, 255), random.within(0, 255));
             match i % 4 {
-                0 if round % 3 == 0 => Difference { from: a.max(b), to: a.min(b), weight: -(random.within(200, 4095) as i32) },
-                1 if round % 5 == 0 => Difference { from: a.max(b), to: a.min(b), weight: -4095 },
+                0 if round % 3 == 0 => Difference { from: a.max(b), to: a.min(b), weight: -(random.within(200, far) as i32) },
+                1 if round % 5 == 0 => Difference { from: a.max(b), to: a.min(b), weight: -(far as i32) },
+                2 if far == H.1 && a != b && random.once_in(40) => {
+                    Difference { from: a.min(b), to: a.max(b), weight: random.within(0, far / 3) as i32 }
+                }
                 _ => Difference { from: a.min(b), to: a.max(b), weight: if a == b { 0 } else { random.within(0, 40) as i32 - 20 } },
             }
         })
         .collect();
     let leaves = if random.once_in(8) { random.within(4, 5) } else { 6 };
-    Sheet { leaves, top, horizon: H.1, nodes, differences }
+    Sheet { leaves, top, horizon: far, nodes, differences }
 }

@@ -14,12 +14,17 @@ impl Plan {
     /// The plan of so many nodes that these bytes spell, all of them.
     pub fn decoded(nodes: usize, bytes: &[u8]) -> Plan {
         let mut rest = bytes.iter().map(|&byte| u32::from(byte));
-        let mut number = || match rest.next().expect("a number") {
-            first if first < 128 => first,
-            first => match rest.next().expect("a second byte") {
-                second @ 1..=127 => first - 128 + 128 * second,
-                second => panic!("second byte {second}"),
-            },
+        let mut number = || {
+            let mut value = 0;
+            for unit in [1, 128, 16_384] {
+                let byte = rest.next().expect("a number, or the rest of one");
+                assert!(byte > 0 || unit == 1, "a last byte of 0");
+                value += byte % 128 * unit;
+                if byte < 128 {
+                    return value;
+                }
+            }
+            panic!("a third byte above 127")
         };
         let mut plan = Plan { latency: number(), labels: Vec::new(), used: Vec::new(), leaves: Vec::new() };
         for _ in 0..nodes {

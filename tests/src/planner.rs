@@ -2,7 +2,7 @@
 use crate::cones;
 use crate::labels::{self, Label};
 use crate::made::put;
-use crate::reader::{self, Sheet};
+use crate::reader::{self, Refusal, Sheet};
 
 /// The chosen cut of each logic node under its label, nothing for the other nodes.
 fn chosen_cuts(sheet: &Sheet, cuts: &[Vec<Vec<u32>>], labels: &[Label]) -> Vec<Vec<u32>> {
@@ -52,21 +52,19 @@ fn plan(sheet: &Sheet, cuts: &[Vec<Vec<u32>>], labels: &[Label]) -> Vec<u8> {
     bytes
 }
 
-/// What planning these bytes into a buffer of `room` bytes gives: number, place and, where the number is 0, the plan.
-pub fn outcome(bytes: &[u8], room: usize) -> (u64, u64, Option<Vec<u8>>) {
-    let sheet = match reader::read(bytes) {
-        Ok(sheet) => sheet,
-        Err((number, place)) => return (number, place, None),
-    };
+/// The plan of these bytes, or the refusal by one of grounds 1 to 7.
+pub fn planned(bytes: &[u8]) -> Result<Vec<u8>, Refusal> {
+    let sheet = reader::read(bytes)?;
     let cuts = labels::fitting_cuts(&sheet);
-    let labels = match labels::least_over(&sheet, &cuts) {
-        Ok(labels) => labels,
-        Err((number, place)) => return (number, place, None),
-    };
-    let plan = plan(&sheet, &cuts, &labels);
-    let length = plan.len() as u64;
-    if plan.len() > room {
-        return (8, length, None);
+    let labels = labels::least_over(&sheet, &cuts)?;
+    Ok(plan(&sheet, &cuts, &labels))
+}
+
+/// What planning into a buffer of `room` bytes gives, of that plan or refusal: number, place and, where the number is 0, the plan.
+pub fn outcome(planned: &Result<Vec<u8>, Refusal>, room: usize) -> (u64, u64, Option<&[u8]>) {
+    match planned {
+        Err((number, place)) => (*number, *place, None),
+        Ok(plan) if plan.len() > room => (8, plan.len() as u64, None),
+        Ok(plan) => (0, plan.len() as u64, Some(plan)),
     }
-    (0, length, Some(plan))
 }

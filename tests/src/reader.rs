@@ -1,4 +1,4 @@
-//! Reading a sheet as document 01 says, or the number and place of the first of grounds 1 to 5.
+//! Reading a sheet as documents 01 and 02 say, or the number and place of the first of grounds 1 to 5.
 use crate::limits::{fields, Range, CODE, H, K, KIND, M, MARK, N, T};
 
 #[derive(Clone, Debug, PartialEq)]
@@ -34,24 +34,32 @@ struct Source<'a> {
 }
 
 impl Source<'_> {
+    /// The next byte of a number.
+    fn byte(&mut self) -> Result<u32, Refusal> {
+        let byte = *self.bytes.get(self.at).ok_or((1, self.bytes.len() as u64))?;
+        self.at += 1;
+        Ok(u32::from(byte))
+    }
+
     /// The next number and the place of its first byte.
     fn number(&mut self) -> Result<(u32, u64), Refusal> {
-        let place = self.at;
-        let Some(&first) = self.bytes.get(place) else {
-            return Err((1, self.bytes.len() as u64));
-        };
-        self.at += 1;
+        let place = self.at as u64;
+        let first = self.byte()?;
         if first < 128 {
-            return Ok((first as u32, place as u64));
+            return Ok((first, place));
         }
-        let Some(&second) = self.bytes.get(place + 1) else {
-            return Err((1, self.bytes.len() as u64));
-        };
-        self.at += 1;
-        if !(1..=127).contains(&second) {
-            return Err((2, place as u64));
+        let second = self.byte()?;
+        if second == 0 {
+            return Err((2, place));
         }
-        Ok(((first & 127) as u32 | (second as u32) << 7, place as u64))
+        if second < 128 {
+            return Ok((first - 128 + 128 * second, place));
+        }
+        let third = self.byte()?;
+        if third == 0 || third > 127 {
+            return Err((2, place));
+        }
+        Ok((first - 128 + 128 * (second - 128) + 16_384 * third, place))
     }
 
     fn ranged(&mut self, (low, high): Range) -> Result<u32, Refusal> {

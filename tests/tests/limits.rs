@@ -1,12 +1,12 @@
-//! Every limit of document 01's section "The sheet", from both sides, through planning, reading and writing: a value inside is read and written, and
-//! one outside is refused, by planning and reading at its own first byte, by writing as the number of the sheet that it is. The sheets are whole:
-//! what follows a value outside its range is what a reader that takes it would go on to read.
+//! Every limit of a sheet, from both sides, through planning, reading and writing: a value inside is read and written, and one outside is refused, by
+//! planning and reading at its own first byte, by writing as the number of the sheet that it is. The sheets are whole: what follows a value outside
+//! its range is what a reader that takes it would go on to read.
 #![cfg(planner)]
 use maps_tests::buffer::{after, lent};
 use maps_tests::library::{plan, read, write, Answer, Tables};
-use maps_tests::limits::{fields, Range, CODE, H, K, KIND, M, MARK, N, NUMBER, T};
-use maps_tests::made::{input, numbers, spelled, table};
-use maps_tests::reader::{Difference, Node, Sheet};
+use maps_tests::limits::{fields, Range, CODE, H, K, KIND, M, MARK, N, NUMBER, SIZES, T};
+use maps_tests::made::{input, numbers, respelled, spelled, table, weight};
+use maps_tests::reader::{self, Difference, Node, Sheet};
 use maps_tests::writer::{self, Records, Rows};
 
 /// Number and place, from planning and from reading alike.
@@ -19,27 +19,30 @@ fn refused(name: &str, bytes: &[u8], number: u64, place: u64) {
     assert!(tables == Tables::filled_with(0xdead_beef), "reading wrote: {name}");
 }
 
-/// The sheet reads, and planning refuses it for none of grounds 1 to 5.
+/// The sheet reads as the independent reader reads it, and planning refuses it for none of grounds 1 to 5.
 fn taken(name: &str, bytes: &[u8]) {
     let answer = plan(bytes, &mut vec![0; 5000]);
     assert!([0, 6, 7].contains(&answer.number), "planning: {name}: {answer:?}");
-    let answer = read(bytes, &mut Tables::filled_with(0xdead_beef));
-    assert_eq!(answer, Answer { number: 0, place: 0 }, "reading: {name}");
+    let mut tables = Tables::filled_with(0xdead_beef);
+    assert_eq!(read(bytes, &mut tables), Answer { number: 0, place: 0 }, "reading: {name}");
+    assert!(tables == Tables::of(&reader::read(bytes).expect("a sheet that reads")), "tables: {name}");
 }
 
-/// The records whose sheet has these numbers, as many of them as counts say while there are some; then 0.
+/// The most nodes or differences that are given here, more than a sheet holds.
+const MANY: u32 = 70_000;
+
+/// The records whose sheet has these numbers, as many of them as counts say while there are some; then 0. At most `MANY` are given.
 fn records(numbers: &[u32]) -> Records {
     let mut rest = numbers.iter().copied();
     let [leaves, top, horizon, n, m] = std::array::from_fn(|_| rest.next().unwrap());
-    let nodes = (0..n).map(|_| {
+    let nodes = (0..n.min(MANY)).map(|_| {
         let [kind, output, delay, latency, count] = std::array::from_fn(|_| rest.next().unwrap_or(0));
         writer::Node { kind, output, delay, latency, operands: rest.by_ref().take(count as usize).collect() }
     });
     let nodes = nodes.collect();
-    let differences = (0..m).map(|_| {
+    let differences = (0..m.min(MANY)).map(|_| {
         let [from, to, code] = std::array::from_fn(|_| rest.next().unwrap_or(0));
-        let half = (code / 2) as i32;
-        Difference { from, to, weight: if code % 2 == 0 { half } else { -half - 1 } }
+        Difference { from, to, weight: weight(code) }
     });
     let differences = differences.collect();
     Records { leaves, top, horizon, nodes, differences }
@@ -47,9 +50,9 @@ fn records(numbers: &[u32]) -> Records {
 
 /// Writing the sheet with these numbers gives this answer, and these bytes at the front of the buffer.
 fn written(name: &str, numbers: &[u32], number: u64, place: u64, bytes: &[u8]) {
-    let (answer, buffer) = lent(11_000, |buffer| write(&Rows::from(&records(numbers)), buffer));
+    let (answer, buffer) = lent(12_000, |buffer| write(&Rows::from(&records(numbers)), buffer));
     assert_eq!(answer, Answer { number, place }, "writing: {name}");
-    assert!(buffer == after(bytes, 11_000), "bytes written: {name}");
+    assert!(buffer == after(bytes, 12_000), "bytes written: {name}");
 }
 
 /// Where the number at an index of a sheet has its first byte.
@@ -71,18 +74,34 @@ fn outside(name: &str, numbers: &[u32], index: usize, ground: u64) {
     written(&name, numbers, ground, index as u64, &[]);
 }
 
-/// Tries both ends of a range, and one past each, at an index of the sheet that `sheet` makes for a value.
+/// Values inside a range: both ends, and the least and the greatest of each count of bytes that it has.
+fn inner((low, high): Range) -> Vec<u32> {
+    let mut values: Vec<u32> = SIZES.into_iter().flat_map(|size| [size.0.max(low), size.1.min(high)]).filter(|v| (low..=high).contains(v)).collect();
+    values.dedup();
+    values
+}
+
+/// Values above a range that have a spelling: next to it, the least and the greatest of each count of bytes, and such as are inside but for one bit.
+fn above((low, high): Range) -> Vec<u32> {
+    let mut values: Vec<u32> = SIZES.into_iter().flat_map(|size| [size.0, size.1]).chain([high + 1]).collect();
+    values.extend([7, 8, 12, 14, 16, 17, 20].into_iter().flat_map(|bit| [low | 1 << bit, high | 1 << bit]));
+    values.retain(|&value| value > high);
+    values.sort();
+    values.dedup();
+    assert!(values.contains(&NUMBER) && values.contains(&(high + 1)));
+    values
+}
+
+/// Tries both ends of a range and other values inside it, and one past each end and others outside it, at an index of the sheet that `sheet` makes
+/// for a value.
 fn both_ends(name: &str, (low, high): Range, index: usize, sheet: impl Fn(u32) -> Vec<u32>) {
-    for value in [low, high] {
+    for value in inner((low, high)) {
         inside(name, &sheet(value), index);
     }
-    for value in [high + 1, NUMBER] {
+    for value in (0..low).chain(above((low, high))) {
         outside(name, &sheet(value), index, 3);
     }
-    for value in 0..low {
-        outside(name, &sheet(value), index, 3);
-    }
-    assert_eq!([low, high + 1].map(|value| sheet(value)[index]), [low, high + 1], "{name} stands at {index}");
+    assert_eq!([low, high + 1, NUMBER].map(|value| sheet(value)[index]), [low, high + 1, NUMBER], "{name} stands at {index}");
 }
 
 /// A sheet of `n` inputs and `m` differences that hold.
@@ -103,9 +122,13 @@ fn header() {
     both_ends("K", K, 0, with(0));
     both_ends("T", T, 1, with(1));
     both_ends("H", H, 2, with(2));
-    // As many nodes and differences as the header says.
-    both_ends("n", N, 3, |n| numbers(&plain(n, 0)));
-    both_ends("m", M, 4, |m| numbers(&plain(2, m)));
+    // As many nodes and differences as the header says, up to more than a sheet holds.
+    let counted = |index: usize, count: u32, mut all: Vec<u32>| {
+        all[index] = count;
+        all
+    };
+    both_ends("n", N, 3, |n| counted(3, n, numbers(&plain(n.min(MANY), 0))));
+    both_ends("m", M, 4, |m| counted(4, m, numbers(&plain(2, m.min(MANY)))));
 }
 
 /// The number of values in a sheet's header, and in a node before its operands.
@@ -178,7 +201,7 @@ fn operand_ids() {
                 let name = format!("operand {position} of node {own}, of kind {kind}");
                 inside(&name, &with(0), index);
                 inside(&name, &with(own - 1), index);
-                for id in [own, own + 1, N.1 - 1, N.1, NUMBER].into_iter().filter(|&id| id >= own) {
+                for id in above((0, own - 1)).into_iter().chain([own + 1, N.1 - 1, N.1]).filter(|&id| id >= own) {
                     outside(&name, &with(id), index, 4);
                 }
             }
@@ -214,10 +237,33 @@ fn differences() {
     }
 }
 
-/// The bytes of a sheet with other bytes in the place of the number at an index.
-fn respelled(numbers: &[u32], index: usize, spelling: &[u8]) -> Vec<u8> {
-    [spelled(&numbers[..index]), spelling.to_vec(), spelled(&numbers[index + 1..])].concat()
+/// Spellings with a third byte that is none, 0 or above 127: each such byte after 80 80, some after other bytes.
+fn wrong_thirds() -> Vec<[u8; 3]> {
+    let mut all: Vec<[u8; 3]> = (128..=255).chain([0]).map(|third| [0x80, 0x80, third]).collect();
+    for first in [0x80, 0x81, 0xff] {
+        for second in [0x80, 0x81, 0xfe, 0xff] {
+            all.extend([0, 128, 129, 254, 255].map(|third| [first, second, third]));
+        }
+    }
+    all
 }
+
+/// Right spellings of two and three bytes with their values, at the ends of H, of the code of w and of each count of bytes. No other field may have
+/// one of them.
+const SPELLINGS: [(&[u8], u32); 12] = [
+    (&[0x80, 0x7f], 16_256),
+    (&[0xff, 0x7f], 16_383),
+    (&[0x80, 0x80, 0x01], 16_384),
+    (&[0xff, 0x80, 0x01], 16_511),
+    (&[0x80, 0x81, 0x01], 16_512),
+    (&[0xff, 0xff, 0x03], 65_535),
+    (&[0x80, 0x80, 0x04], 65_536),
+    (&[0xfd, 0xff, 0x07], 131_069),
+    (&[0xfe, 0xff, 0x07], 131_070),
+    (&[0xff, 0xff, 0x07], 131_071),
+    (&[0x80, 0x80, 0x7f], 2_080_768),
+    (&[0xff, 0xff, 0x7f], 2_097_151),
+];
 
 #[test]
 fn spelling() {
@@ -227,28 +273,54 @@ fn spelling() {
     let all = numbers(&sheet);
     let operands = [20, 21, 27, 28];
     assert_eq!(operands.map(|index| all[index]), [0, 1, 2, 0]);
+    let (horizon, code) = (2, all.len() - 1);
     taken("the whole sheet", &spelled(&all));
+    let mut spelled_rightly = 0;
     for index in 0..all.len() {
         let at = place(&all, index);
-        // A second byte that is none, whatever the first says.
-        for first in [0x80 | all[index] as u8, 0x80, 0xff] {
-            for second in [0, 128, 129, 254, 255] {
-                refused(&format!("{first} {second} as number {index}"), &respelled(&all, index, &[first, second]), 2, at);
+        let misspelt = |spelling: &[u8]| {
+            let name = format!("{spelling:02x?} as number {index}");
+            refused(&name, &respelled(&all, index, spelling), 2, at);
+            refused(&format!("{name}, the last"), &[spelled(&all[..index]), spelling.to_vec()].concat(), 2, at);
+        };
+        // A last byte of 0, whatever the first says; a third byte above 127, whatever follows it.
+        let own = 0x80 | all[index] as u8;
+        for first in [own, 0x80, 0x81, 0xff] {
+            misspelt(&[first, 0]);
+        }
+        misspelt(&[own, 0x80, 0]);
+        wrong_thirds().iter().for_each(|spelling| misspelt(spelling));
+        for fourth in [0, 1, 127, 128, 255] {
+            misspelt(&[0x80, 0x80, 0x80, fourth]);
+            misspelt(&[own, 0xff, 0xff, fourth]);
+        }
+        // A right spelling: the value is refused where it is outside its range, and not its spelling.
+        let ground = if operands.contains(&index) { 4 } else { 3 };
+        let most = if index == horizon { H.1 } else if index == code { CODE.1 } else { 0 };
+        for (spelling, value) in SPELLINGS {
+            let (name, bytes) = (format!("{spelling:02x?} as number {index}"), respelled(&all, index, spelling));
+            if value > most {
+                refused(&name, &bytes, ground, at);
+            } else {
+                let mut whole = all.clone();
+                whole[index] = value;
+                assert_eq!(bytes, spelled(&whole), "{name}");
+                inside(&name, &whole, index);
+                spelled_rightly += 1;
             }
         }
-        // The greatest second byte is one: the value is refused, and not its spelling.
-        let ground = if operands.contains(&index) { 4 } else { 3 };
-        for first in [0x80, 0xff] {
-            refused(&format!("{first} 127 as number {index}"), &respelled(&all, index, &[first, 127]), ground, at);
-        }
-        // The sheet ends before the number, or in it.
+        // The sheet ends before the number, after its first byte, and after its second.
         let before = spelled(&all[..index]);
         refused(&format!("no number {index}"), &before, 1, at);
-        refused(&format!("half of number {index}"), &[before, vec![0x80]].concat(), 1, at + 1);
+        for bytes in [&[own][..], &[0x80], &[0xff], &[own, 0x80], &[0x80, 0x80], &[0x80, 0xff], &[0xff, 0x80], &[0xff, 0xff]] {
+            refused(&format!("{bytes:02x?} of number {index}"), &[&before, bytes].concat(), 1, at + bytes.len() as u64);
+        }
     }
-    // The greatest first byte of one, and the least second of two.
+    // H up to 65,535, and the code of w up to 131,070.
+    assert_eq!(spelled_rightly, 6 + 9);
+    // The greatest number of one byte, and the least second byte of two.
     for spelling in [vec![127], vec![0x80, 1], vec![0xff, 1]] {
-        taken(&format!("{spelling:?} as H"), &respelled(&all, 2, &spelling));
+        taken(&format!("{spelling:?} as H"), &respelled(&all, horizon, &spelling));
     }
     let whole = spelled(&all);
     refused("one byte more", &[whole.clone(), vec![0]].concat(), 5, whole.len() as u64);

@@ -3,9 +3,9 @@
 #![cfg(planner)]
 use maps_tests::library::plan;
 use maps_tests::limits::{H, W};
-use maps_tests::made::{self, chain, greatest, input, numbers, small, spelled, stairs, table, Size};
+use maps_tests::made::{self, chain, greatest, input, long, numbers, respelled, small, spelled, stairs, table, Size};
 use maps_tests::plan::{refusal_line, Plan};
-use maps_tests::planner::outcome;
+use maps_tests::planner::planned;
 use maps_tests::random::Random;
 use maps_tests::reader::{self, Difference, Node, Sheet};
 use std::fs::{self, File};
@@ -62,12 +62,16 @@ fn nodes(bytes: &[u8]) -> usize {
 
 /// Compares on a small sheet, of which brute force gives the plan; gives the number.
 fn compare_small(bytes: &[u8]) -> u64 {
-    let (number, place, plan) = outcome(bytes, 5000);
-    match plan {
-        Some(plan) => compare(bytes, &listing(nodes(bytes), &plan)),
-        None => compare(bytes, &refusal_line(number, place)),
+    match planned(bytes) {
+        Ok(plan) => {
+            compare(bytes, &listing(nodes(bytes), &plan));
+            0
+        }
+        Err((number, place)) => {
+            compare(bytes, &refusal_line(number, place));
+            number
+        }
     }
-    number
 }
 
 /// Compares on a sheet that reads, of which the planning call gives the plan. Gives the plan's numbers, none where it is refused.
@@ -89,11 +93,12 @@ fn small_sheets() {
     println!("seed {SEED}");
     let mut random = Random::new(SEED);
     let mut met = [0; 9];
-    for round in 0..240 {
-        let sheet = match round % 3 {
+    for round in 0..320 {
+        let sheet = match round % 4 {
             0 => stairs(&mut random),
             1 => small(&mut random, &Size { nodes: 12, top: 64, horizon: H.1, latency: 255, wide: false }),
-            _ => small(&mut random, &Size { nodes: 9, top: 3, horizon: 40, latency: 30, wide: round % 2 == 0 }),
+            2 => long(&mut random),
+            _ => small(&mut random, &Size { nodes: 9, top: 3, horizon: 40, latency: 30, wide: round % 8 == 3 }),
         };
         met[compare_small(&spelled(&numbers(&sheet))) as usize] += 1;
     }
@@ -139,14 +144,15 @@ fn large_sheets() {
     let sizes = [1, 6, 7, 9, 10, 11, 12, 99, 100, 101, 128, 255, 256, 256, 256];
     let mut plans: Vec<Plan> = (0..75).filter_map(|round| compare_large(&spread(&mut random, sizes[round % sizes.len()]))).collect();
     plans.extend((0..6).filter_map(|round| compare_large(&made::large(&mut random, 4 * round))));
-    plans.push(compare_large(&chain(16)).expect("a chain within H"));
-    assert!(compare_large(&chain(17)).is_none(), "a chain past H");
+    plans.push(compare_large(&chain(16, 4_095)).expect("a chain within H"));
+    assert!(compare_large(&chain(17, 4_095)).is_none(), "a chain past H");
+    plans.push(compare_large(&chain(127, H.1)).expect("a chain within the greatest H"));
     let whole = plans.iter().filter(|plan| plan.labels.len() == 256).count();
     println!("{} plans, {whole} of 256 nodes", plans.len());
     assert!(plans.len() > 40 && whole > 10);
     // One digit, and as many as there can be; each count of leaves.
-    assert_eq!(digits(&plans, |plan| [plan.latency].into_iter()), (1, 4));
-    assert_eq!(digits(&plans, |plan| plan.labels.iter().map(|label| label.0)), (1, 4));
+    assert_eq!(digits(&plans, |plan| [plan.latency].into_iter()), (1, 5));
+    assert_eq!(digits(&plans, |plan| plan.labels.iter().map(|label| label.0)), (1, 5));
     assert_eq!(digits(&plans, |plan| plan.labels.iter().map(|label| label.1)), (1, 2));
     assert_eq!(digits(&plans, |plan| plan.leaves.iter().flatten().copied()), (1, 3));
     for count in 0..=6 {
@@ -155,10 +161,12 @@ fn large_sheets() {
 }
 
 #[test]
-fn differences_of_one_to_four_digits() {
+fn differences_of_one_to_five_digits() {
     // Two inputs w steps apart, and a table on both.
     let nodes = vec![input(), input(), table(true, &[0, 1])];
-    for (horizon, weight) in [(H.1, W as i32), (H.1, 3_807), (1_000, 1_000), (999, 999), (100, 99), (10, 10), (10, 9)] {
+    let five = [(H.1, W as i32), (H.1, 16_384), (16_384, 16_384), (16_383, 16_383), (10_000, 10_000)];
+    let fewer = [(9_999, 9_999), (4_095, 4_095), (H.1, 3_807), (1_000, 1_000), (999, 999), (100, 99), (10, 10), (10, 9)];
+    for (horizon, weight) in five.into_iter().chain(fewer) {
         let differences = vec![Difference { from: 0, to: 1, weight }];
         let sheet = Sheet { leaves: 2, top: 1, horizon, nodes: nodes.clone(), differences };
         let expected = format!("latency {weight}\n0 0 0 used\n1 {weight} 0 used\n2 {weight} 1 used 0 1\n");
@@ -178,15 +186,15 @@ fn refusals_far_into_a_sheet() {
         compare(bytes, &refusal_line(number, place));
         met[number as usize] += u32::from(place > 999);
     };
-    for length in [0, 9, 10, 99, 100, 999, 1_000, 1_001, 5_000, 9_000, bytes.len() - 1] {
+    for length in [0, 9, 10, 99, 100, 999, 1_000, 1_001, 5_000, 9_000, 9_999, 10_000, bytes.len() - 1] {
         expect(&bytes[..length]);
     }
     for _ in 0..40 {
-        // A second byte that is none; a value outside every range, or an operand id that is; a tail.
+        // A second byte of 0, a third of 0 or above 127; a value outside every range, or an operand id that is; a tail.
         let index = random.within(1000, whole.len() as u32 - 1) as usize;
-        let before = spelled(&whole[..index]);
-        expect(&[before.clone(), vec![0x80, 0], bytes[before.len()..].to_vec()].concat());
-        expect(&[before, vec![0xff, 0x7f], spelled(&whole[index + 1..])].concat());
+        for spelling in [&[0x80, 0][..], &[0x80, 0x80, 0], &[0x80, 0x80, 0x80], &[0xff, 0xff, 0x7f]] {
+            expect(&respelled(&whole, index, spelling));
+        }
         expect(&[bytes.clone(), vec![random.next() as u8; random.within(1, 300) as usize]].concat());
     }
     println!("refusals 1 to 5 with a place above 999: {:?}", &met[1..]);
@@ -208,7 +216,7 @@ fn tables_without_a_cut() {
 #[test]
 fn input_longer_than_the_program_reads() {
     let mut random = Random::new(SEED + 3);
-    for sheet in [chain(16), greatest(&mut random), spread(&mut random, 6)] {
+    for sheet in [chain(16, 4_095), greatest(&mut random), spread(&mut random, 6)] {
         let bytes = spelled(&numbers(&sheet));
         for length in [STOP - 1, STOP, STOP + 1, STOP + 128, 2 * STOP, 10 * STOP + 1] {
             let longer = [bytes.clone(), vec![0; length - bytes.len()]].concat();

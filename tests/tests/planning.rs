@@ -2,13 +2,15 @@
 //! bytes; against the definition of least labels on tiny sheets; and what can be checked without brute force on sheets at every limit.
 #![cfg(planner)]
 use maps_tests::buffer::{after, lent};
+use maps_tests::header::defined;
 use maps_tests::labels::{fitting_cuts, least, legal, Label};
 use maps_tests::library::{plan, Answer};
-use maps_tests::made::{self, chain, damaged, greatest, input, numbers, ring, small, spelled, stairs, table, variant, Size};
+use maps_tests::limits::{fields, width, H, N, T, W};
+use maps_tests::made::{self, chain, damaged, greatest, input, long, numbers, ring, small, spelled, stairs, table, variant, Size};
 use maps_tests::plan::{refusal_line, Plan};
-use maps_tests::planner::outcome;
+use maps_tests::planner::{self, outcome};
 use maps_tests::random::Random;
-use maps_tests::reader::{Difference, Node, Sheet};
+use maps_tests::reader::{Difference, Node, Refusal, Sheet};
 
 const SEED: u64 = 20260103;
 
@@ -17,27 +19,30 @@ fn planned(bytes: &[u8], room: usize) -> (Answer, Vec<u8>) {
     lent(room, |buffer| plan(bytes, buffer))
 }
 
-/// Compares the library with the planner by brute force in one room, and gives number and place.
-fn compare_in(bytes: &[u8], room: usize) -> (u64, u64) {
-    let (number, place, plan) = outcome(bytes, room);
+/// Compares the library in one room with what brute force gives, and gives number and place.
+fn compare_in(bytes: &[u8], brute: &Result<Vec<u8>, Refusal>, room: usize) -> (u64, u64) {
+    let (number, place, plan) = outcome(brute, room);
     let (answer, buffer) = planned(bytes, room);
     assert_eq!(answer, Answer { number, place }, "{bytes:?} in {room}");
-    assert!(buffer == after(&plan.unwrap_or_default(), room), "buffer of {bytes:?} in {room}: {buffer:?}");
+    assert!(buffer == after(plan.unwrap_or_default(), room), "buffer of {bytes:?} in {room}: {buffer:?}");
     (number, place)
 }
 
-/// Compares in several rooms and counts the numbers met: ample, none and, for an accepted sheet, exact, one short and one more.
-fn compare(bytes: &[u8], met: &mut [u32; 9]) {
-    let (number, place) = compare_in(bytes, 5000);
+/// Compares with the planner by brute force in several rooms and counts the numbers met: ample, none and, for an accepted sheet, exact, one short and
+/// one more. Gives what brute force gives.
+fn compare(bytes: &[u8], met: &mut [u32; 9]) -> Result<Vec<u8>, Refusal> {
+    let brute = planner::planned(bytes);
+    let (number, place) = compare_in(bytes, &brute, 5000);
     met[number as usize] += 1;
-    met[compare_in(bytes, 0).0 as usize] += 1;
+    met[compare_in(bytes, &brute, 0).0 as usize] += 1;
     if number == 0 {
         let length = place as usize;
         for (room, expected) in [(length, 0), (length - 1, 8), (length + 1, 0)] {
-            assert_eq!(compare_in(bytes, room), (expected, place));
+            assert_eq!(compare_in(bytes, &brute, room), (expected, place));
             met[expected as usize] += 1;
         }
     }
+    brute
 }
 
 /// Compares on as many sheets as `rounds`, which `bytes` makes from the seed and the round, and counts the numbers met.
@@ -46,7 +51,7 @@ fn compare_all(seed: u64, rounds: u32, mut bytes: impl FnMut(&mut Random, u32) -
     let mut random = Random::new(seed);
     let mut met = [0; 9];
     for round in 0..rounds {
-        compare(&bytes(&mut random, round), &mut met);
+        let _ = compare(&bytes(&mut random, round), &mut met);
     }
     println!("calls by number: {met:?}");
     met
@@ -71,13 +76,82 @@ fn small_sheets() {
     let met = compare_all(SEED, 24000, |random, round| {
         let size = match round % 8 {
             0 => Size { nodes: 13, top: 4, horizon: 30, latency: 3, wide: false },
-            1 => Size { nodes: 10, top: 64, horizon: 4095, latency: 255, wide: false },
+            1 => Size { nodes: 10, top: 64, horizon: [4_095, H.1][round as usize / 8 % 2], latency: 255, wide: false },
             2 => Size { nodes: 10, top: 1, horizon: 8, latency: 2, wide: false },
             wide => Size { nodes: 9, top: 3, horizon: 6, latency: 3, wide: wide > 5 },
         };
         spelled(&numbers(&small(random, &size)))
     });
     assert!([0, 6, 7, 8].iter().all(|&number| met[number] > 4000), "{met:?}");
+}
+
+/// Sheets with long paths of differences, counted by how many bytes a number has.
+#[derive(Debug, Default)]
+struct Lengths {
+    /// Plans, by their latency.
+    latencies: [u32; 3],
+    /// Plans that have a step of so many bytes.
+    steps: [u32; 3],
+    /// Plans whose latency is H, by H.
+    full: [u32; 3],
+    /// Sheets that are refused 7 and legal within an H that is greater by 20, by H.
+    late: [u32; 3],
+    /// Those of `full` and those of `late` that have the greatest H.
+    greatest: [u32; 2],
+}
+
+impl Lengths {
+    fn count(&mut self, sheet: &Sheet, brute: &Result<Vec<u8>, Refusal>) {
+        let bytes = width(sheet.horizon) - 1;
+        let greatest = u32::from(sheet.horizon == H.1);
+        match brute {
+            Ok(plan) => {
+                let plan = Plan::decoded(sheet.nodes.len(), plan);
+                self.latencies[width(plan.latency) - 1] += 1;
+                (1..=3).for_each(|bytes| self.steps[bytes - 1] += u32::from(plan.labels.iter().any(|label| width(label.0) == bytes)));
+                self.full[bytes] += u32::from(plan.latency == sheet.horizon);
+                self.greatest[0] += greatest * u32::from(plan.latency == sheet.horizon);
+            }
+            Err((7, _)) if least(&Sheet { horizon: sheet.horizon + 20, ..sheet.clone() }).is_ok() => {
+                self.late[bytes] += 1;
+                self.greatest[1] += greatest;
+            }
+            Err(_) => {}
+        }
+    }
+}
+
+#[test]
+fn sheets_with_long_paths() {
+    println!("seed {}", SEED + 9);
+    let mut random = Random::new(SEED + 9);
+    let (mut met, mut lengths) = ([0; 9], Lengths::default());
+    for _ in 0..12000 {
+        let sheet = long(&mut random);
+        lengths.count(&sheet, &compare(&spelled(&numbers(&sheet)), &mut met));
+    }
+    println!("calls by number: {met:?}, {lengths:?}");
+    assert!(met[0] > 5000 && met[7] > 5000, "{met:?}");
+    let Lengths { latencies, steps, full, late, greatest } = lengths;
+    assert!([latencies, steps, full, late].iter().flatten().chain(&greatest).all(|&count| count > 100), "each occurs often");
+}
+
+#[test]
+fn every_step() {
+    // Two inputs w steps apart: within w, and not within less.
+    let apart = |horizon: u32, w: u32| spelled(&[2, 1, horizon, 2, 1, 0, 0, 0, 0, 0, 0, 0, 0, 0, 0, 0, 1, 2 * w]);
+    let mut of_three = 0;
+    for w in 0..=W {
+        let plan = spelled(&[w, 0, 0, 0, 0, w, 0, 0, 0]);
+        let accepted = Answer { number: 0, place: plan.len() as u64 };
+        assert_eq!(planned(&apart(w, w), plan.len()), (accepted, plan.clone()), "w = H = {w}");
+        assert_eq!(planned(&apart(H.1, w), plan.len()), (accepted, plan), "w = {w}");
+        if w > 0 {
+            assert_eq!(planned(&apart(w - 1, w), 0), (Answer { number: 7, place: 0 }, Vec::new()), "w = {w}, one more than H");
+        }
+        of_three += u32::from(width(w) == 3);
+    }
+    assert_eq!(of_three, 65_536 - 16_384);
 }
 
 #[test]
@@ -173,57 +247,127 @@ fn labels_of_tiny_sheets_are_least_by_definition() {
     assert!(met[0] > 1000 && met[6] > 50 && met[7] > 1000 && later > 200);
 }
 
-/// Plans a large sheet, checks what is written and gives the number.
-fn large(name: &str, sheet: &Sheet) -> u64 {
+/// The plan of a large sheet within a horizon, if it is accepted; otherwise it is refused 7.
+fn within(sheet: &Sheet, horizon: u32) -> Option<Vec<u8>> {
+    let (answer, mut buffer) = planned(&spelled(&numbers(&Sheet { horizon, ..sheet.clone() })), 5000);
+    buffer.truncate(answer.place as usize);
+    match answer.number {
+        0 => Some(buffer),
+        _ => {
+            assert_eq!(answer, Answer { number: 7, place: 0 });
+            None
+        }
+    }
+}
+
+/// Plans a large sheet, checks what is written and gives the number, and the plan where there is one.
+fn large_plan(name: &str, sheet: &Sheet) -> (u64, Option<Plan>) {
     let bytes = spelled(&numbers(sheet));
     let (answer, buffer) = planned(&bytes, 5000);
     println!("{name}: {answer:?}");
+    let decoded = |bytes: &[u8]| Plan::decoded(sheet.nodes.len(), bytes);
+    let mut plan = None;
     match answer.number {
         0 => {
             let length = answer.place as usize;
             assert!(buffer[length..] == after(&[], 5000)[length..], "{name}: bytes after the plan");
-            Plan::decoded(sheet.nodes.len(), &buffer[..length]).check(sheet);
             assert_eq!(planned(&bytes, length), (answer, buffer[..length].to_vec()));
             let short = Answer { number: 8, place: answer.place };
             assert_eq!(planned(&bytes, length - 1), (short, after(&[], length - 1)));
             assert_eq!(planned(&bytes, 0), (short, Vec::new()));
+            let found = decoded(&buffer[..length]);
+            found.check(sheet);
+            // Least labels are those of every horizon from the latency on.
+            for horizon in [found.latency, H.1] {
+                assert!(within(sheet, horizon).is_some_and(|same| same == buffer[..length]), "{name}: within {horizon}");
+            }
+            assert!(found.latency == 0 || within(sheet, found.latency - 1).is_none(), "{name}: within less than the latency");
+            plan = Some(found);
         }
         6 => {
             let node = &sheet.nodes[answer.place as usize];
             assert!(node.kind == 1 && node.operands.len() > sheet.leaves as usize, "{name}: {node:?}");
         }
-        7 => assert_eq!(answer.place, 0),
+        7 => {
+            assert_eq!(answer.place, 0);
+            assert!(within(sheet, H.1).is_none_or(|later| decoded(&later).latency > sheet.horizon), "{name}: late within H");
+        }
         number => panic!("{name}: number {number}"),
     }
     if answer.number != 0 {
         assert!(buffer == after(&[], 5000), "{name}: a refusal wrote");
     }
-    answer.number
+    (answer.number, plan)
+}
+
+/// The number alone.
+fn large(name: &str, sheet: &Sheet) -> u64 {
+    large_plan(name, sheet).0
 }
 
 #[test]
 fn sheets_at_every_limit() {
     println!("seed {}", SEED + 4);
     let mut random = Random::new(SEED + 4);
-    for _ in 0..10 {
-        large("the greatest", &greatest(&mut random));
-        assert_eq!(large("lat 255 a hundred times over", &variant(&mut random, 255, |i| (i % 256, 255, -4095))), 7);
-        assert_eq!(large("lat 1, w = -4,095", &variant(&mut random, 1, |i| (i % 256, i / 4, -4095))), 0);
-        assert_eq!(large("lat 0, w = -4,095", &variant(&mut random, 0, |i| (255 - i % 256, i % 256, -4095))), 0);
-        assert_eq!(large("w = 4,095 from an input to the last node", &variant(&mut random, 0, |_| (0, 255, 4095))), 0);
-        assert_eq!(large("w = 4,095 twice over", &variant(&mut random, 0, |i| (i % 2 * 255, 255, 4095))), 7);
-        assert_eq!(large("w = 4,095 and back", &variant(&mut random, 0, |i| if i % 2 == 0 { (0, 255, 4095) } else { (255, 0, -4095) })), 0);
+    for far in [4_095, H.1].repeat(10) {
+        let w = far as i32;
+        let mut vary = |latency: u32, weight: &dyn Fn(u32) -> (u32, u32, i32)| Sheet { horizon: far, ..variant(&mut random, latency, weight) };
+        // Past 4,095, and within the greatest H.
+        let slow = large("lat 255 many times over", &vary(255, &|i| (i % 256, 255, -w)));
+        assert_eq!(slow, if far == H.1 { 0 } else { 7 });
+        assert_eq!(large("lat 1, least w", &vary(1, &|i| (i % 256, i / 4, -w))), 0);
+        assert_eq!(large("lat 0, least w", &vary(0, &|i| (255 - i % 256, i % 256, -w))), 0);
+        assert_eq!(large("greatest w from an input to the last node", &vary(0, &|_| (0, 255, w))), 0);
+        assert_eq!(large("greatest w twice over", &vary(0, &|i| (i % 2 * 255, 255, w))), 7);
+        assert_eq!(large("greatest w and back", &vary(0, &|i| if i % 2 == 0 { (0, 255, w) } else { (255, 0, -w) })), 0);
         // Everything depends on input 0, so the last node is always as many steps after it as in the plan without differences.
-        let still = variant(&mut random, 1, |_| (0, 0, 0));
+        let still = vary(1, &|_| (0, 0, 0));
         let mut buffer = vec![0; 5000];
         let length = plan(&spelled(&numbers(&still)), &mut buffer).place as usize;
         let apart = Plan::decoded(still.nodes.len(), &buffer[..length]).labels[255].0 as i32;
         let ring = |weight: i32| Sheet { differences: vec![Difference { from: 255, to: 0, weight }; 1024], ..still.clone() };
         assert_eq!(large("a ring that holds", &ring(-apart)), 0);
         assert_eq!(large("a ring that gains a step a turn", &ring(1 - apart)), 7);
-        assert_eq!(large("sixteen times lat 255", &chain(16)), 0);
-        assert_eq!(large("seventeen times lat 255", &chain(17)), 7);
+        large("the greatest", &Sheet { horizon: far, ..greatest(&mut random) });
     }
+    assert_eq!(large("sixteen times lat 255", &chain(16, 4_095)), 0);
+    assert_eq!(large("seventeen times lat 255", &chain(17, 4_095)), 7);
+    // 127 times lat 255 after a first table that is so late that the last node is at the greatest step, or one past it.
+    let late = |w: u32| {
+        let mut sheet = chain(127, H.1);
+        sheet.differences[0] = Difference { from: 0, to: 1, weight: w as i32 };
+        sheet
+    };
+    let rest = H.1 - 127 * 255;
+    assert_eq!(large("lat 255 up to the greatest H", &late(rest)), 0);
+    assert_eq!(large("lat 255 past the greatest H", &late(rest + 1)), 7);
+}
+
+#[test]
+fn the_header_says_what_no_plan_exceeds() {
+    let leaves = fields(1, T.1).operands.1;
+    let node = width(H.1) + width(T.1) + width(1) + width(leaves) + leaves as usize * width(N.1 - 2);
+    assert_eq!(defined("MAPS_PLAN_MOST"), (width(H.1) + N.1 as usize * node) as u64);
+    // Tables on six inputs each, with ids of two bytes where there are six such inputs; all but the first input are at the greatest step.
+    let inputs: Vec<u32> = (0..6).chain(128..134).collect();
+    let leaves_of = |own: u32| if own < 128 { &inputs[..6] } else { &inputs[6..] };
+    let node = |own: u32| if inputs.contains(&own) { Node { output: true, ..input() } } else { table(true, leaves_of(own)) };
+    let differences = inputs[1..].iter().map(|&to| Difference { from: 0, to, weight: W as i32 }).collect();
+    let sheet = Sheet { leaves, top: T.0, horizon: H.1, nodes: (0..N.1).map(node).collect(), differences };
+    let mut plan = vec![H.1];
+    for own in 0..N.1 {
+        let step = if own == 0 { 0 } else { H.1 };
+        if inputs.contains(&own) {
+            plan.extend([step, 0, 1, 0]);
+        } else {
+            plan.extend([step, 1, 1, 6]);
+            plan.extend(leaves_of(own));
+        }
+    }
+    let plan = spelled(&plan);
+    assert_eq!(plan.len(), 3 + 4 + 11 * 6 + 122 * 12 + 122 * 18);
+    assert!(within(&sheet, H.1) == Some(plan), "the plan with the greatest steps");
+    assert_eq!(large("the greatest steps", &sheet), 0);
 }
 
 #[test]
@@ -231,12 +375,18 @@ fn large_made_up_sheets() {
     println!("seed {}", SEED + 5);
     let mut random = Random::new(SEED + 5);
     let mut met = [0; 9];
+    // Plans by the bytes of their latency.
+    let mut latencies = [0; 3];
     for round in 0..400 {
-        let sheet = made::large(&mut random, round);
-        met[large("made up", &sheet) as usize] += 1;
+        let (number, plan) = large_plan("made up", &made::large(&mut random, round));
+        met[number as usize] += 1;
+        if let Some(plan) = plan {
+            latencies[width(plan.latency) - 1] += 1;
+        }
     }
-    println!("sheets by number: {met:?}");
+    println!("sheets by number: {met:?}, plans by their latency's bytes: {latencies:?}");
     assert!(met[0] > 100 && met[6] > 20 && met[7] > 20, "{met:?}");
+    assert!(latencies[1] > 50 && latencies[2] > 50, "{latencies:?}");
 }
 
 /// Sheets that were made to be slow: a ring whose ids run in zigzag over operands that it pushes itself, tables with costly cuts, and a long chain of
@@ -247,6 +397,8 @@ fn slow_sheets() {
         let path = format!("{}/sheets/{name}.sheet", env!("CARGO_MANIFEST_DIR"));
         let sheet = maps_tests::reader::read(&std::fs::read(path).unwrap()).unwrap();
         assert_eq!(large(name, &sheet), number);
+        // Whatever the horizon is.
+        assert_eq!(large(name, &Sheet { horizon: H.1, ..sheet }), number);
     }
 }
 
@@ -260,7 +412,7 @@ fn hall(leaves: u32, top: u32, horizon: u32, differences: &[(u32, u32, i32)]) ->
 
 /// The listing of what the library gives, also held against the planner by brute force.
 fn listing(bytes: &[u8]) -> String {
-    compare(bytes, &mut [0; 9]);
+    let _ = compare(bytes, &mut [0; 9]);
     let (answer, buffer) = planned(bytes, 5000);
     if answer.number != 0 {
         return refusal_line(answer.number, answer.place);
@@ -318,6 +470,30 @@ fn the_cases_of_document_01() {
     assert_eq!(listing(&[0xff, 0x7f]), "refused 3 0\n");
     assert_eq!(listing(&[0x80, 0x00]), "refused 2 0\n");
     assert_eq!(listing(&[0x80]), "refused 1 1\n");
-    assert_eq!(listing(&[0x80, 0x80]), "refused 2 0\n");
     assert_eq!(listing(&[]), "refused 1 0\n");
+}
+
+#[test]
+fn the_cases_of_document_02() {
+    // U2: numbers of three bytes.
+    assert_eq!(listing(&[0x80, 0x80]), "refused 1 2\n");
+    assert_eq!(listing(&[0x80, 0x80, 0x00]), "refused 2 0\n");
+    assert_eq!(listing(&[0x80, 0x80, 0x80]), "refused 2 0\n");
+    assert_eq!(listing(&[0x80, 0x80, 0x80, 0x01]), "refused 2 0\n");
+    assert_eq!(listing(&[0x81, 0x80, 0x00]), "refused 2 0\n");
+    assert_eq!(listing(&[0x80, 0x80, 0x01]), "refused 3 0\n");
+    assert_eq!(listing(&[0xff, 0xff, 0x7f]), "refused 3 0\n");
+    // U2: H and w.
+    let whole = |step: u32| format!("latency {step}\n0 0 0 used\n1 0 0 used\n2 0 0 used\n3 0 1 used 0 1\n4 0 1 idle\n5 {step} 1 used 2 3\n");
+    for step in [1, 127, 128, 4_095, 4_096, 16_383, 16_384, 65_534, 65_535] {
+        let w = step as i32;
+        assert_eq!(listing(&hall(3, 2, step, &[(0, 5, w)])), whole(step));
+        assert_eq!(listing(&hall(3, 2, step - 1, &[(0, 5, w)])), "refused 7 0\n");
+        assert_eq!(listing(&hall(3, 2, 65_535, &[(0, 5, w), (5, 0, -w)])), whole(step));
+        assert_eq!(listing(&hall(3, 2, 65_535, &[(0, 5, w), (5, 0, 1 - w)])), "refused 7 0\n");
+    }
+    assert_eq!(listing(&hall(3, 2, 65_535, &[(0, 5, 1), (5, 0, -65_535)])), whole(1));
+    assert_eq!(listing(&hall(3, 2, 65_536, &[(0, 5, 1)])), "refused 3 2\n");
+    assert_eq!(listing(&hall(3, 2, 65_535, &[(0, 5, 65_536)])), "refused 3 45\n");
+    assert_eq!(listing(&hall(3, 2, 4, &[(0, 5, -65_536)])), "refused 3 43\n");
 }

@@ -1,13 +1,14 @@
 //! The proved reader against the independent one: number, place and both tables, on sheets within the ranges, damaged sheets and random bytes.
 use maps_tests::library::{read, Answer, Tables};
-use maps_tests::made::{damaged, numbers, sheet, spelled};
+use maps_tests::limits::{width, H};
+use maps_tests::made::{damaged, greatest_up_to, numbers, sheet, spelled};
 use maps_tests::random::Random;
 use maps_tests::reader;
 
 const SEED: u64 = 20260101;
 
-/// Compares one reading, and gives its number.
-fn compare(bytes: &[u8]) -> u64 {
+/// Compares one reading, and gives number and place.
+fn compare(bytes: &[u8]) -> (u64, u64) {
     let mut tables = Tables::filled_with(0xdead_beef);
     let answer = read(bytes, &mut tables);
     match reader::read(bytes) {
@@ -20,16 +21,45 @@ fn compare(bytes: &[u8]) -> u64 {
             assert!(tables == Tables::filled_with(0xdead_beef), "a refusal wrote: {bytes:?}");
         }
     }
-    answer.number
+    (answer.number, answer.place)
 }
 
 #[test]
 fn made_up_sheets_read() {
     println!("seed {SEED}");
     let mut random = Random::new(SEED);
+    // How many numbers have one, two and three bytes: of H, and of all.
+    let (mut horizons, mut all) = ([0; 3], [0; 3]);
     for round in 0..4000 {
         let most = if round % 10 == 0 { 256 } else { 12 };
-        assert_eq!(compare(&spelled(&numbers(&sheet(&mut random, most)))), 0);
+        let sheet = sheet(&mut random, most);
+        horizons[width(sheet.horizon) - 1] += 1;
+        numbers(&sheet).into_iter().for_each(|value| all[width(value) - 1] += 1);
+        assert_eq!(compare(&spelled(&numbers(&sheet))), (0, 0));
+    }
+    println!("by bytes: H {horizons:?}, all numbers {all:?}");
+    assert!(horizons.iter().all(|&count| count > 1000) && all.iter().all(|&count| count > 50_000), "{horizons:?} {all:?}");
+}
+
+/// What was wrong with a number: its third byte is missing, its second is 0, its third is 0, its third is above 127.
+#[derive(Debug, Default)]
+struct Spellings {
+    third_missing: u32,
+    second_0: u32,
+    third_0: u32,
+    third_above: u32,
+}
+
+impl Spellings {
+    fn count(&mut self, bytes: &[u8], (number, place): (u64, u64)) {
+        let byte = |i: usize| bytes.get(place as usize + i);
+        match number {
+            1 => self.third_missing += u32::from(bytes.len() > 1 && bytes[bytes.len() - 2..].iter().all(|&byte| byte > 127)),
+            2 if byte(1) == Some(&0) => self.second_0 += 1,
+            2 if byte(2) == Some(&0) => self.third_0 += 1,
+            2 => self.third_above += 1,
+            _ => {}
+        }
     }
 }
 
@@ -37,13 +67,18 @@ fn made_up_sheets_read() {
 fn damaged_sheets_are_refused_alike() {
     println!("seed {SEED}");
     let mut random = Random::new(SEED + 1);
-    let mut met = [0; 6];
+    let (mut met, mut spellings) = ([0; 6], Spellings::default());
     for _ in 0..20000 {
         let whole = sheet(&mut random, 8);
-        met[compare(&damaged(&mut random, &whole)) as usize] += 1;
+        let bytes = damaged(&mut random, &whole);
+        let answer = compare(&bytes);
+        met[answer.0 as usize] += 1;
+        spellings.count(&bytes, answer);
     }
-    println!("accepted and refused 1 to 5: {met:?}");
+    println!("accepted and refused 1 to 5: {met:?}, {spellings:?}");
     assert!(met.iter().all(|&count| count > 200), "each ground occurs often: {met:?}");
+    let Spellings { third_missing, second_0, third_0, third_above } = spellings;
+    assert!([third_missing, second_0, third_0, third_above].iter().all(|&count| count > 100), "each fault of a spelling occurs often");
 }
 
 #[test]
@@ -60,15 +95,26 @@ fn random_bytes_are_refused_alike() {
 #[test]
 fn every_prefix_of_a_sheet_ends_too_early() {
     let mut random = Random::new(SEED + 3);
-    let bytes = spelled(&numbers(&sheet(&mut random, 40)));
-    for length in 0..bytes.len() {
-        assert_eq!(compare(&bytes[..length]), 1);
+    // How many prefixes end after the first byte of a number and after its second.
+    let mut ends = [0, 0];
+    for _ in 0..10 {
+        let bytes = spelled(&numbers(&sheet(&mut random, 40)));
+        for length in 0..bytes.len() {
+            assert_eq!(compare(&bytes[..length]), (1, length as u64));
+            match bytes[..length].iter().rev().take_while(|&&byte| byte > 127).count() {
+                0 => {}
+                count => ends[count - 1] += 1,
+            }
+        }
+        assert_eq!(compare(&bytes), (0, 0));
     }
-    assert_eq!(compare(&bytes), 0);
+    assert!(ends.iter().all(|&count| count > 100), "{ends:?}");
 }
 
 #[test]
 fn the_greatest_sheet_reads() {
     let mut random = Random::new(SEED + 4);
-    assert_eq!(compare(&spelled(&numbers(&maps_tests::made::greatest(&mut random)))), 0);
+    for far in [4_095, H.1] {
+        assert_eq!(compare(&spelled(&numbers(&greatest_up_to(&mut random, far)))), (0, 0));
+    }
 }

@@ -3,7 +3,7 @@
 #![cfg(planner)]
 use maps_tests::header::defined;
 use maps_tests::library::{plan, write};
-use maps_tests::limits::{fields, N};
+use maps_tests::limits::{fields, H, N};
 use maps_tests::made::{chain, greatest, input, numbers, spelled, table};
 use maps_tests::random::Random;
 use maps_tests::reader::Sheet;
@@ -228,7 +228,7 @@ fn within_the_bound<T: Send + 'static>(call: &str, work: impl FnOnce() -> T + Se
 /// Tables that each read the one below and one of `inputs` inputs: with T = 1 all of them must be inside one cone, and a walk goes down all of it.
 fn ladder(inputs: u32) -> Sheet {
     let nodes = (0..256).map(|own| if own < inputs { input() } else { table(own == 255, &[own % inputs, own - 1]) }).collect();
-    Sheet { leaves: 6, top: 1, horizon: 4095, nodes, differences: Vec::new() }
+    Sheet { leaves: 6, top: 1, horizon: H.1, nodes, differences: Vec::new() }
 }
 
 #[test]
@@ -236,7 +236,8 @@ fn the_bound_is_enough_for_deep_sheets() {
     let planning = || {
         let mut random = Random::new(20260105);
         let mut met = [0; 9];
-        let sheets = (1..40).map(ladder).chain((0..20).map(|_| greatest(&mut random))).chain((0..20).map(chain));
+        let chains = [4_095, H.1].into_iter().flat_map(|far| (0..20).map(move |slow| chain(slow, far)));
+        let sheets = (1..40).map(ladder).chain((0..20).map(|_| greatest(&mut random))).chain(chains);
         for sheet in sheets.collect::<Vec<_>>() {
             let mut buffer = vec![0; 5000];
             met[plan(&spelled(&numbers(&sheet)), &mut buffer).number as usize] += 1;
@@ -256,7 +257,7 @@ fn the_bound_is_enough_for_the_greatest_records() {
         for _ in 0..20 {
             let rows = Rows::from(&Records::from(&greatest(&mut random)));
             let wrong = Rows { differences: vec![256; rows.differences.len()], ..rows.clone() };
-            for (rows, room) in [(&rows, 11_000), (&rows, 0), (&wrong, 11_000)] {
+            for (rows, room) in [(&rows, 12_000), (&rows, 0), (&wrong, 12_000)] {
                 met[write(rows, &mut vec![0; room]).number as usize] += 1;
             }
         }

@@ -4,8 +4,8 @@
 use maps_tests::buffer::{after, lent};
 use maps_tests::header::defined;
 use maps_tests::library::{read, write, Answer, Tables};
-use maps_tests::limits::{fields, Range, CODE, H, K, KIND, M, MARK, N, NUMBER, T, W};
-use maps_tests::made::{self, chain, damaged, greatest, ring, sheet, small, spelled, stairs, variant, Size};
+use maps_tests::limits::{fields, width, Range, CODE, H, K, KIND, M, MARK, N, NUMBER, SIZES, T, W};
+use maps_tests::made::{self, chain, code, damaged, greatest, long, ring, sheet, small, spelled, stairs, variant, Size};
 use maps_tests::random::Random;
 use maps_tests::reader::{self, Difference, Sheet};
 use maps_tests::writer::{outcome, Node, Records, Rows};
@@ -13,7 +13,7 @@ use maps_tests::writer::{outcome, Node, Records, Rows};
 const SEED: u64 = 20260106;
 
 /// A room that no sheet exceeds.
-const AMPLE: usize = 11_000;
+const AMPLE: usize = 12_000;
 
 /// Compares the library with the independent writer in one room, and gives number and place.
 fn compare_in(rows: &Rows, room: usize) -> (u64, u64) {
@@ -142,11 +142,12 @@ impl Number {
         let (range, right) = (self.range(records).0, self.of(records));
         let (low, high) = range.unwrap_or((0, 0));
         let mut values = vec![low.wrapping_sub(1), high + 1, NUMBER, NUMBER + 1, u32::MAX - 1, u32::MAX];
-        values.extend([8, 14, 16, 24, 31].map(|bit| right.wrapping_add(1 << bit)));
+        values.extend(SIZES.iter().flat_map(|size| [size.0, size.1]));
+        values.extend([8, 14, 16, 17, 21, 24, 31].map(|bit| right.wrapping_add(1 << bit)));
         if let Number::Weight(_) = self {
             let beyond = W as i32 + 1;
             values.extend([beyond, -beyond, 2 * beyond, -2 * beyond, i32::MAX, i32::MIN, i32::MIN + 1].map(|w| w as u32));
-            values.extend([14, 16, 24].map(|bit| right.wrapping_sub(1 << bit)));
+            values.extend([14, 16, 17, 21, 24].map(|bit| right.wrapping_sub(1 << bit)));
         }
         values.retain(|&value| match (self, range) {
             (Number::Weight(_), _) => (value as i32).unsigned_abs() > W,
@@ -160,15 +161,17 @@ impl Number {
 /// The most nodes, differences or operands of a node that are given here.
 const MANY: u32 = 3_000;
 
-/// Any value: near the right one, small, with or without a spelling, right but for one bit, or any at all.
+/// Any value: near the right one, small, about the size of two bytes, of any with a spelling, of w, right but for one bit, or any at all.
 fn any_value(random: &mut Random, right: u32) -> u32 {
-    match random.within(0, 6) {
+    match random.within(0, 8) {
         0 => right.wrapping_add(1),
         1 => right.wrapping_sub(1),
         2 => random.within(0, 8),
         3 => random.within(0, 300),
-        4 => random.within(0, 2 * NUMBER),
-        5 => right ^ 1 << random.within(0, 31),
+        4 => random.within(0, 2 * SIZES[1].1),
+        5 => random.within(0, 2 * NUMBER),
+        6 => random.within(0, 4 * W).wrapping_sub(2 * W),
+        7 => right ^ 1 << random.within(0, 31),
         _ => random.next() as u32,
     }
 }
@@ -183,11 +186,19 @@ fn change(random: &mut Random, records: &mut Records) {
 
 #[test]
 fn made_up_records() {
+    // How many have an H of one, two and three bytes, and how many a w.
+    let (mut horizons, mut weights) = ([0; 3], [0; 3]);
     let met = compare_all(SEED, 4000, |random, round| {
         let most = if round % 20 == 0 { 256 } else { 12 };
-        Rows::from(&Records::from(&sheet(random, most)))
+        let sheet = sheet(random, most);
+        horizons[width(sheet.horizon) - 1] += 1;
+        let has = |bytes: usize| sheet.differences.iter().any(|d| width(code(d.weight)) == bytes);
+        (1..=3).for_each(|bytes| weights[bytes - 1] += u32::from(has(bytes)));
+        Rows::from(&Records::from(&sheet))
     });
     assert_eq!(met, [3 * 4000, 0, 0, 0, 0, 0, 0, 0, 3 * 4000]);
+    println!("by bytes: H {horizons:?}, w {weights:?}");
+    assert!(horizons.iter().chain(&weights).all(|&count| count > 1000), "{horizons:?} {weights:?}");
 }
 
 #[test]
@@ -398,19 +409,21 @@ fn there_and_back(bytes: &[u8]) -> bool {
 fn sheets_there_and_back() {
     println!("seed {}", SEED + 6);
     let mut random = Random::new(SEED + 6);
-    for round in 0..6000 {
-        let sheet = match round % 6 {
+    for round in 0..7000 {
+        let sheet = match round % 7 {
             0 => stairs(&mut random),
             1 => ring(&mut random, 11, true),
             2 => small(&mut random, &Size { nodes: 12, top: 64, horizon: H.1, latency: 255, wide: false }),
             3 => small(&mut random, &Size { nodes: 9, top: 3, horizon: 40, latency: 30, wide: true }),
-            _ => sheet(&mut random, if round % 60 == 4 { 256 } else { 12 }),
+            4 => long(&mut random),
+            _ => sheet(&mut random, if round % 70 == 5 { 256 } else { 12 }),
         };
         assert!(there_and_back(&spelled(&made::numbers(&sheet))), "{sheet:?} reads");
     }
     for round in 0..40 {
-        let w = |i: u32| (255 - i % 256, i % 256, i as i32 * 8 - W as i32);
-        for sheet in [made::large(&mut random, round), greatest(&mut random), variant(&mut random, 127 + round as u32, w), chain(round as u32)] {
+        let w = |i: u32| (255 - i % 256, i % 256, (i * 2 * W / (M.1 - 1)) as i32 - W as i32);
+        let chain = chain(round as u32, [4_095, H.1][round % 2]);
+        for sheet in [made::large(&mut random, round), greatest(&mut random), variant(&mut random, 127 + round as u32, w), chain] {
             assert!(there_and_back(&spelled(&made::numbers(&sheet))), "{sheet:?} reads");
         }
     }
@@ -447,20 +460,58 @@ fn every_weight_and_every_horizon() {
     }
 }
 
-/// The bytes of a number.
-fn width(value: u32) -> u64 {
-    if value < 128 { 1 } else { 2 }
+#[test]
+fn lengths_at_each_count_of_bytes() {
+    // H and the code of w at the ends of one, two and three bytes, with their bytes.
+    let horizons: [(u32, &[u8]); 8] = [
+        (0, &[0]),
+        (127, &[0x7f]),
+        (128, &[0x80, 0x01]),
+        (4_095, &[0xff, 0x1f]),
+        (4_096, &[0x80, 0x20]),
+        (16_383, &[0xff, 0x7f]),
+        (16_384, &[0x80, 0x80, 0x01]),
+        (65_535, &[0xff, 0xff, 0x03]),
+    ];
+    let weights: [(i32, &[u8]); 11] = [
+        (0, &[0]),
+        (-1, &[1]),
+        (-64, &[0x7f]),
+        (64, &[0x80, 0x01]),
+        (4_095, &[0xfe, 0x3f]),
+        (-4_096, &[0xff, 0x3f]),
+        (-8_192, &[0xff, 0x7f]),
+        (8_192, &[0x80, 0x80, 0x01]),
+        (-8_193, &[0x81, 0x80, 0x01]),
+        (-65_535, &[0xfd, 0xff, 0x07]),
+        (65_535, &[0xfe, 0xff, 0x07]),
+    ];
+    for (horizon, horizon_bytes) in horizons {
+        for (weight, weight_bytes) in weights {
+            let nodes = vec![Node::from(&made::input())];
+            let records = Records { leaves: 2, top: 1, horizon, nodes, differences: vec![Difference { from: 0, to: 0, weight }] };
+            let bytes = [&[2, 1], horizon_bytes, &[1, 1, 0, 0, 0, 0, 0, 0, 0], weight_bytes].concat();
+            let length = bytes.len();
+            let rows = Rows::from(&records);
+            let (answer, written) = lent(length, |buffer| write(&rows, buffer));
+            assert_eq!((answer, &written), (Answer { number: 0, place: length as u64 }, &bytes), "H = {horizon}, w = {weight}");
+            for (room, number) in [(length, 0), (length + 1, 0), (length - 1, 8), (length - 2, 8), (0, 8)] {
+                assert_eq!(compare_in(&rows, room), (number, length as u64), "H = {horizon}, w = {weight}");
+            }
+            assert!(there_and_back(&bytes));
+        }
+    }
 }
 
 #[test]
 fn the_header_says_what_no_sheet_exceeds() {
-    let head = [K.1, T.1, H.1, N.1, M.1].map(width).iter().sum::<u64>();
+    let head = [K.1, T.1, H.1, N.1, M.1].map(width).iter().sum::<usize>();
     let most = |of: fn(u32) -> u32| width((0..=KIND.1).map(of).max().unwrap());
     let fixed = width(KIND.1) + width(MARK.1) + most(|kind| fields(kind, T.1).delay.1) + most(|kind| fields(kind, T.1).latency.1);
     let operands = (0..=KIND.1).map(|kind| fields(kind, T.1).operands.1).max().unwrap();
-    let node = fixed + width(operands) + u64::from(operands) * width(N.1 - 2);
+    let node = fixed + width(operands) + operands as usize * width(N.1 - 2);
     let difference = 2 * width(N.1 - 1) + width(CODE.1);
-    assert_eq!(defined("MAPS_SHEET_MOST"), head + u64::from(N.1) * node + u64::from(M.1) * difference);
+    assert_eq!(defined("MAPS_SHEET_MOST"), (head + N.1 as usize * node + M.1 as usize * difference) as u64);
     // The longest: boxes, which read the node before them as often as they may.
     let nodes = (0..N.1).map(|own| {
         let operands = if own == 0 { Vec::new() } else { vec![own - 1; operands as usize] };
@@ -472,6 +523,7 @@ fn the_header_says_what_no_sheet_exceeds() {
     // Node 0 has no operands, and those of 128 more nodes have one byte.
     let shorter = 2 * u64::from(operands) + 128 * u64::from(operands);
     let length = defined("MAPS_SHEET_MOST") - shorter;
+    assert_eq!(length, 11_005);
     for (room, number) in [(defined("MAPS_SHEET_MOST"), 0), (length, 0), (length - 1, 8), (0, 8)] {
         assert_eq!(compare_in(&rows, room as usize), (number, length));
     }

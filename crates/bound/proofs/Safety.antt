@@ -70,6 +70,7 @@ module _ {S : Sheet} {graph differences : List ℕ} {limits : R.Header} (g : Giv
           g .listed .minuses i k,
         )
 
+  -- Sums fit 32 bits: a step that is in time is at most H with its latency, a weight is no greater than H can be, and no sum has more than these two.
   module _ {steps levels : List ℕ} (t : Timed S steps levels) where
     pub soon-all : (u : ℕ) → u < limits .nodes → Soon graph steps u
     soon-all u l = omega (arith, latency-is u l, t .ends u (node-in u l .0), g .well .horizon .most)

@@ -90,9 +90,9 @@ module _ (S : Sheet) (well : WellFormed S) (L : List Label) (ok : Legal S (at L)
       let most = mul-le-mul-right rowMost (well .size .most) in
       simp length-append (omega arith)
 
-plan-most : planMost ≡ mapsPlanMost
+plan-most : planMost ≤ mapsPlanMost
 unfolding encodedUpTo
-plan-most = refl
+plan-most = omega arith
 
 module _ (bytes : List ℕ) (room : ℕ) where
   number-most : {k p : ℕ} → Ground bytes room k p → k ≤ 8

@@ -23,9 +23,9 @@ use Rattle.bytes.specs.Outcome.{Answered}
 use Rattle.customer.specs.Stores.{Written, Refused, Stores, mapsSheetMost, StoreBounded}
 use Rattle.customer.proofs.Answers.{untouched, placed, front, back}
 
-sheet-most : sheetMost ≡ mapsSheetMost
+sheet-most : sheetMost ≤ mapsSheetMost
 unfolding encodedUpTo
-sheet-most = refl
+sheet-most = omega arith
 
 module _ (R : Records) (buffer : List ℕ) (number place : ℕ) (after : List ℕ) (is : Answered (writing R (length buffer)) number place buffer after) where
   accepts : (bytes : List ℕ) → writing R (length buffer) ≡ accepted bytes → Written R buffer number place after bytes

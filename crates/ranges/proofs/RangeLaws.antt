@@ -2,46 +2,17 @@
 use Prim.Native.Nat.{ℕ, zero, suc, _-_, _≤_, _<_, min}
 use mathlib.Core.Path.{_≡_, refl, ap, _∙_}
 use native.Mathlib.Omega.{arith}
-use lib.ListN.{getD}
 use Rattle.maps.specs.Limits.{range, rangesOf, topRange, sizeRange, operandsMost, latencyMost, idRange}
 use Rattle.maps.specs.Limits as Limits
-use Rattle.ranges.specs.Ranges.{spanOf, placeOf, fieldRange, fieldSpans, kindRanges, rangesMeant}
+use Rattle.ranges.specs.Ranges.{spanOf, fieldRange, kindRanges, rangesMeant}
 use Rattle.ranges.specs.declared.Span.{Span}
 use Rattle.ranges.specs.declared.Ranges.{Ranges}
-use Rattle.ranges.specs.declared.Field.{Field}
-use Rattle.ranges.specs.declared.Field.the-variants.{Leaves, Top, Horizon, Nodes, Differences, Kind, Mark, Id, Weight}
+use Rattle.ranges.specs.declared.Field.the-variants.{Id}
 
 pub box-row : (code : ℕ) → (code ≡ 0 → ⊥) → (code ≡ 1 → ⊥) → kindRanges 2 ≡ kindRanges code
 box-row zero n m = absurd (n refl)
 box-row (suc zero) n m = absurd (m refl)
 box-row (suc (suc k)) n m = refl
-
--- every field has its place in the table
-pub place-small : (f : Field) → placeOf f < 9
-place-small Leaves = omega arith
-place-small Top = omega arith
-place-small Horizon = omega arith
-place-small Nodes = omega arith
-place-small Differences = omega arith
-place-small Kind = omega arith
-place-small Mark = omega arith
-place-small Id = omega arith
-place-small Weight = omega arith
-
--- and there stands its range
-pub place-right : (f : Field) (i : ℕ) → i ≡ placeOf f → getD fieldSpans i (spanOf (range 0 0)) ≡ spanOf (fieldRange f)
-place-right f i e = ap (λ (j : ℕ). getD fieldSpans j (spanOf (range 0 0))) e ∙ go f
-  where
-    go : (f : Field) → getD fieldSpans (placeOf f) (spanOf (range 0 0)) ≡ spanOf (fieldRange f)
-    go Leaves = refl
-    go Top = refl
-    go Horizon = refl
-    go Nodes = refl
-    go Differences = refl
-    go Kind = refl
-    go Mark = refl
-    go Id = refl
-    go Weight = refl
 
 -- the table's row of a kind, for every T
 pub ranges-right : (top code : ℕ) → top ≤ topRange .high → rangesMeant top (kindRanges code) ≡ rangesOf top code

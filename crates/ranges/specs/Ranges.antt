@@ -1,6 +1,5 @@
 -- The code's tables of field ranges, against document 01's.
 use Prim.Native.Nat.{ℕ, zero, suc, min}
-use mathlib.Core.List.{List, [], _∷_}
 use Rattle.maps.specs.Limits.{Range, range, leavesRange, topRange, horizonRange, sizeRange, countRange, kindRange, markRange, idRange, weightRange, operandsMost, latencyMost}
 use Rattle.maps.specs.Limits as Limits
 use Rattle.ranges.specs.declared.Span.{Span}
@@ -25,24 +24,6 @@ fieldRange Is.Kind = kindRange
 fieldRange Is.Mark = markRange
 fieldRange Is.Id = idRange (sizeRange .high)
 fieldRange Is.Weight = weightRange
-
--- where it stands in the code's table
-abbrev pub placeOf : Field → ℕ
-placeOf Is.Leaves = 0
-placeOf Is.Top = 1
-placeOf Is.Horizon = 2
-placeOf Is.Nodes = 3
-placeOf Is.Differences = 4
-placeOf Is.Kind = 5
-placeOf Is.Mark = 6
-placeOf Is.Id = 7
-placeOf Is.Weight = 8
-
--- the table
-abbrev pub fieldSpans : List Span
-fieldSpans =
-    spanOf leavesRange ∷ spanOf topRange ∷ spanOf horizonRange ∷ spanOf sizeRange ∷ spanOf countRange ∷ spanOf kindRange ∷ spanOf markRange
-    ∷ spanOf (idRange (sizeRange .high)) ∷ spanOf weightRange ∷ []
 
 abbrev row : (delay latency operands : Range) → Ranges
 row d l o = record { delay = spanOf d; latency = spanOf l; operands = spanOf o }

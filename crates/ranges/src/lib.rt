@@ -2,7 +2,7 @@
 // reads or writes a sheet takes them from here.
 ghost use mathlib.Core.Path.{_≡_};
 ghost use Prim.Native.Nat.{min};
-ghost use Rattle.ranges.specs.Ranges.{kindRanges, spanOf, placeOf, fieldRange};
+ghost use Rattle.ranges.specs.Ranges.{kindRanges, spanOf, fieldRange};
 
 // The values from low to high.
 pub struct Span {
@@ -81,29 +81,21 @@ pub fn ranges_of(code: u32) -> Ranges
     KIND_RANGES[2]
 }
 
-// The place of a field's range in the table.
-fn place_of(field: Field) -> usize
-    ensures { λ r. ⌜ r ≡ placeOf field ⌝ }
-{
-    match field {
-        Field::Leaves => 0,
-        Field::Top => 1,
-        Field::Horizon => 2,
-        Field::Nodes => 3,
-        Field::Differences => 4,
-        Field::Kind => 5,
-        Field::Mark => 6,
-        Field::Id => 7,
-        Field::Weight => 8,
-    }
-}
-
 // The range of a field.
 pub fn range_of(field: Field) -> Span
     ensures { λ r. ⌜ r ≡ spanOf (fieldRange field) ⌝ }
 {
-    let i = place_of(field);
-    FIELD_RANGES[i]
+    match field {
+        Field::Leaves => FIELD_RANGES[0],
+        Field::Top => FIELD_RANGES[1],
+        Field::Horizon => FIELD_RANGES[2],
+        Field::Nodes => FIELD_RANGES[3],
+        Field::Differences => FIELD_RANGES[4],
+        Field::Kind => FIELD_RANGES[5],
+        Field::Mark => FIELD_RANGES[6],
+        Field::Id => FIELD_RANGES[7],
+        Field::Weight => FIELD_RANGES[8],
+    }
 }
 
 impl Span {

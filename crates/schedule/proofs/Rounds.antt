@@ -98,7 +98,7 @@ module _ {S : Sheet} {graph differences : List ℕ} {limits : R.Header} (g : Giv
   unfolding stepsMost
   most-is = rw (g .nodes, g .horizon)
 
-  -- which is a number of the code's, twice over
+  -- which is a number of the code's, twice over: so is 256 times the greatest H
   most-fits : stepsMost limits < 2147483647
   most-fits =
       let y : size S * S .horizon ≤ 256 * S .horizon = mul-le-mul-right (S .horizon) (g .well .size .most) in

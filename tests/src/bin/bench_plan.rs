@@ -1,6 +1,7 @@
 //! Times the planning call on sheets of 16 to 256 nodes of several kinds or, where files are named, on the sheets in them. With the feature
 //! `before` another version of the library stands beside it, with `sketch` the unproved sketch.
 #![cfg_attr(not(planner), allow(dead_code, unused_mut))]
+use maps_tests::limits::H;
 use maps_tests::made::{numbers, spelled};
 use maps_tests::random::Random;
 use maps_tests::reader::{Difference, Node, Sheet};
@@ -134,8 +135,8 @@ fn holding(random: &mut Random, n: u32) -> Sheet {
     sheet
 }
 
-/// A ring through all nodes that gains a step a turn, so that nothing is legal.
-fn running(random: &mut Random, n: u32) -> Sheet {
+/// A ring through all nodes that gains a step a turn, so that nothing is legal. It leads up `steps` steps and back one less.
+fn ring(random: &mut Random, n: u32, steps: i32) -> Sheet {
     let mut sheet = wide(random, n);
     let first = 6 + random.within(0, 3);
     sheet.nodes[first as usize].operands = vec![0];
@@ -146,9 +147,14 @@ fn running(random: &mut Random, n: u32) -> Sheet {
         let back = random.within(1, own.min(6));
         sheet.differences.push(Difference { from: own, to: own - back, weight: -(random.within(8, 40) as i32) });
     }
-    sheet.differences.push(Difference { from: 0, to: n - 1, weight: 200 });
-    sheet.differences.push(Difference { from: n - 1, to: 0, weight: -199 });
+    sheet.differences.push(Difference { from: 0, to: n - 1, weight: steps });
+    sheet.differences.push(Difference { from: n - 1, to: 0, weight: 1 - steps });
     sheet
+}
+
+/// A ring of 200 steps.
+fn running(random: &mut Random, n: u32) -> Sheet {
+    ring(random, n, 200)
 }
 
 /// How often each call plans a sheet.
@@ -217,9 +223,10 @@ fn main() {
             row(&format!("{name}, {n} nodes"), &sheets);
         }
     }
-    for horizon in [256, 1024, 4095] {
-        let ring = |seed| Sheet { horizon, ..running(&mut Random::new(seed), 256) };
-        let sheets: Vec<Vec<u8>> = (0..SHEETS).map(|seed| spelled(&numbers(&ring(seed)))).collect();
+    // Within each of these horizons a ring of 60 steps has room for many turns.
+    for horizon in [100, 4_095, H.1] {
+        let never = |seed| Sheet { horizon, ..ring(&mut Random::new(seed), 256, 60) };
+        let sheets: Vec<Vec<u8>> = (0..SHEETS).map(|seed| spelled(&numbers(&never(seed)))).collect();
         row(&format!("rings off horizon {horizon}"), &sheets);
     }
 }

@@ -1,6 +1,7 @@
 //! Times the proved reader beside the independent one, on sheets of growing size and on the greatest.
 use maps_tests::library::{read, Tables};
-use maps_tests::made::{greatest, numbers, nearly, spelled};
+use maps_tests::limits::H;
+use maps_tests::made::{greatest_up_to, numbers, nearly, spelled};
 use maps_tests::random::Random;
 use maps_tests::reader;
 use std::hint::black_box;
@@ -33,10 +34,12 @@ fn row(name: &str, bytes: &[u8]) {
 fn main() {
     let mut random = Random::new(7);
     for most in [16, 64, 128, 256] {
-        let whole = nearly(&mut random, most);
+        let whole = nearly(&mut random, most, 4_095);
         row(&format!("up to {most} nodes"), &spelled(&numbers(&whole)));
     }
-    let bytes = spelled(&numbers(&greatest(&mut random)));
-    row("the greatest", &bytes);
-    row("the greatest, cut short", &bytes[..bytes.len() - 1]);
+    for far in [4_095, H.1] {
+        let bytes = spelled(&numbers(&greatest_up_to(&mut random, far)));
+        row(&format!("the greatest, H = {far}"), &bytes);
+        row("the same, cut short", &bytes[..bytes.len() - 1]);
+    }
 }

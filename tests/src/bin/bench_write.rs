@@ -2,7 +2,8 @@
 //! greatest.
 #![cfg_attr(not(planner), allow(dead_code, unused_imports))]
 use maps_tests::library::{read, Tables};
-use maps_tests::made::{greatest, numbers, nearly, spelled};
+use maps_tests::limits::{H, W};
+use maps_tests::made::{greatest_up_to, numbers, nearly, spelled};
 use maps_tests::random::Random;
 use maps_tests::reader::Sheet;
 use maps_tests::writer::{outcome, Records, Rows};
@@ -10,7 +11,7 @@ use std::hint::black_box;
 use std::time::Instant;
 
 /// A room that no sheet exceeds.
-const AMPLE: usize = 11_000;
+const AMPLE: usize = 12_000;
 
 /// How often each work is timed, and how many calls are one timing.
 const RUNS: usize = 200;
@@ -64,12 +65,14 @@ fn row(name: &str, _: &Sheet, _: usize) {
 fn main() {
     let mut random = Random::new(7);
     for most in [16, 64, 128, 256] {
-        let whole = nearly(&mut random, most);
+        let whole = nearly(&mut random, most, 4_095);
         row(&format!("up to {most} nodes"), &whole, AMPLE);
     }
-    let mut whole = greatest(&mut random);
-    row("the greatest", &whole, AMPLE);
-    row("the greatest, no buffer", &whole, 0);
-    whole.differences.last_mut().unwrap().weight = 4_096;
-    row("the greatest, last w wrong", &whole, AMPLE);
+    for far in [4_095, H.1] {
+        let mut whole = greatest_up_to(&mut random, far);
+        row(&format!("the greatest, H = {far}"), &whole, AMPLE);
+        row("the same, no buffer", &whole, 0);
+        whole.differences.last_mut().unwrap().weight = W as i32 + 1;
+        row("the same, last w wrong", &whole, AMPLE);
+    }
 }

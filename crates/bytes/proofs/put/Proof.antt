@@ -2,6 +2,7 @@
 use Prim.Native.Nat.{_-_}
 use mathlib.Core.Path.{_∙_}
 use borrow.Author.Needs.{needs}
+use native.Mathlib.Omega.{arith}
 use lib.ListN.{length-set}
 use Rattle.maps.specs.Number.{width}
 use Rattle.bytes.proofs.Putting.{Begun, begun-none, begun-room, begun-more, begun-last}
@@ -21,7 +22,7 @@ slice-write-bytes : tie.Need-slice-write-bytes Inv-loop μ-loop
 slice-write-bytes c = begun-room (c .before .before .pre .1) (c .before .loop .inv)
 
 loop-again : tie.Need-loop-again Inv-loop μ-loop
-loop-again c = begun-more (c .before .before .pre .1) (c .before .loop .inv) (c .loop-test .taken)
+loop-again c = begun-more (c .before .before .pre .1) (c .before .loop .inv) (omega (arith, c .loop-test .taken))
 
 slice-write-bytes-2 : tie.Need-slice-write-bytes-2 Inv-loop μ-loop
 slice-write-bytes-2 c = begun-room (c .before .before .pre .1) (c .before .loop .inv)
@@ -32,7 +33,7 @@ same-length c =
     length-set (l .bytes) (l .to) (l .rest) ∙ l .inv .put .wide
 
 returns : tie.Need-returns Inv-loop μ-loop
-returns c = begun-last (c .before .before .pre .1) (c .before .loop .inv) (c .loop-test .left)
+returns c = begun-last (c .before .before .pre .1) (c .before .loop .inv) (omega (arith, c .loop-test .left))
 
 pub put-spec : {M : Type 1} → statement M
 put-spec =

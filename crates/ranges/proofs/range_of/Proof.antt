@@ -1,24 +1,63 @@
--- `ranges::range_of` meets its contract: at each field's place stands its range.
-use native.Mathlib.Omega.{arith}
-use Rattle.ranges.proofs.RangeLaws.{place-small, place-right}
+-- `ranges::range_of` meets its contract: each field's arm has its range.
 use borrow.Author.Needs.{needs}
 use Rattle.ranges.proofs.range_of.Statement.{statement}
 use Rattle.ranges.proofs.range_of.Tie as tie
 
-mul-result : tie.Need-mul-result
-mul-result c = let l = place-small (c .before .args .field) in omega (arith, c .place-of .ensures)
-
-array-copy-out-result : tie.Need-array-copy-out-result
-array-copy-out-result c = let l = place-small (c .before .args .field) in omega (arith, c .place-of .ensures)
-
 returns : tie.Need-returns
-returns c = place-right (c .before .before .args .field) (c .before .place-of .result) (c .before .place-of .ensures)
+returns c = rw (c .before .enum-told .given .1)
+
+returns-2 : tie.Need-returns-2
+returns-2 c = rw (c .before .enum-told2 .given .1)
+
+returns-3 : tie.Need-returns-3
+returns-3 c = rw (c .before .enum-told3 .given .1)
+
+returns-4 : tie.Need-returns-4
+returns-4 c = rw (c .before .enum-told4 .given .1)
+
+returns-5 : tie.Need-returns-5
+returns-5 c = rw (c .before .enum-told5 .given .1)
+
+returns-6 : tie.Need-returns-6
+returns-6 c = rw (c .before .enum-told6 .given .1)
+
+returns-7 : tie.Need-returns-7
+returns-7 c = rw (c .before .enum-told7 .given .1)
+
+returns-8 : tie.Need-returns-8
+returns-8 c = rw (c .before .enum-told8 .given .1)
+
+returns-9 : tie.Need-returns-9
+returns-9 c = rw (c .before .enum-told9 .given .1)
 
 pub range-of-spec : {M : Type 1} → statement M
 range-of-spec =
     tie.close
     (tie.spec
-    (λ c κs. search needs)
-    mul-result
-    array-copy-out-result
-    returns)
+    (λ c. search needs)
+    (λ c. search needs)
+    (λ c. search needs)
+    (λ c. search needs)
+    (λ c. search needs)
+    (λ c. search needs)
+    (λ c. search needs)
+    (λ c. search needs)
+    (λ c. search needs)
+    (λ c. search needs)
+    (λ c. search needs)
+    (λ c. search needs)
+    (λ c. search needs)
+    (λ c. search needs)
+    (λ c. search needs)
+    (λ c. search needs)
+    (λ c. search needs)
+    (λ c. search needs)
+    returns
+    returns-2
+    returns-3
+    returns-4
+    returns-5
+    returns-6
+    returns-7
+    returns-8
+    returns-9)
