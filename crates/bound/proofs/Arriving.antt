@@ -8,11 +8,10 @@ use native.Mathlib.Omega.{arith}
 use lib.Dec.{leb}
 use Rattle.maps.specs.Label.{Label, label, leq, later, plus, ready, _≼_}
 use Rattle.maps.specs.Code.{fitted}
-use Rattle.maps.proofs.Order.{≼-refl, ≼-trans, leq-true, ≼-leq, leq-decides, later-is, later-left, later-right}
+use Rattle.maps.proofs.Order.{≼-refl, ≼-trans, leq-true, ≼-leq, leq-decides, later-is, later-left, later-right, ready-step}
 use Rattle.maps.proofs.Over.{last-or}
 use Rattle.maps.proofs.Fix.{label-path}
 use Rattle.rows.specs.Table.{latencyIn, delayIn, operandIn}
-use Rattle.relax.proofs.Closed.{ready-step}
 use Rattle.bound.specs.Lookup.{labelIn, arrivalIn, Soon}
 use Rattle.bound.specs.Bound.{Carrying, Latest}
 

@@ -8,11 +8,12 @@ use Rattle.maps.specs.Label.{Label, _≼_}
 use Rattle.maps.specs.Sheet.{Sheet, Difference, node, size, latency}
 use Rattle.maps.specs.Legal.{readyOf}
 use Rattle.maps.proofs.Member.{All-at, mem-out, mem-in, mem-index, index-mem}
+use Rattle.maps.proofs.Order.{ready-step}
 use Rattle.rows.specs.Table.{countIn, operandIn, latencyIn, fromIn, toIn, plusIn, minusIn, differenceAt, noDifference}
 use Rattle.rows.specs.declared.Header as R
 use Rattle.relax.specs.Guard.{NodeOk, DiffsInto}
 use Rattle.relax.specs.Settle.{ForcedStep, Asks}
-use Rattle.relax.proofs.Closed.{Closed, well-closed, inside, ready-step}
+use Rattle.relax.proofs.Closed.{Closed, well-closed, inside}
 use Rattle.bound.specs.Lookup.{labelIn, Heeded}
 use Rattle.bound.specs.Bound.{Greatest, readyStep, Into, pushOf}
 use Rattle.bound.specs.Going.{Given, Timed}

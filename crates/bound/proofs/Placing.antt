@@ -13,9 +13,9 @@ use Rattle.maps.specs.Code.{fitted}
 use Rattle.maps.specs.Sheet.{Sheet, size, latency}
 use Rattle.maps.specs.Legal.{NoneLegal}
 use Rattle.maps.proofs.Fix.{label-path}
+use Rattle.maps.proofs.Order.{ready-step}
 use Rattle.rows.specs.declared.Header as R
 use Rattle.relax.specs.Guard.{Guarded, Forced, Raised}
-use Rattle.relax.proofs.Closed.{ready-step}
 use Rattle.relax.proofs.Guard.{legal-node, legal-diffs, guarded-under}
 use Rattle.bound.specs.Lookup.{labelIn}
 use Rattle.bound.specs.Bound.{endIn}

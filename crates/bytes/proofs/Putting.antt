@@ -9,7 +9,7 @@ use lib.Seq.{take-suc-set}
 use borrow.Author.Tests.{le-ltb}
 use Rattle.maps.specs.Lists.{concat}
 use Rattle.maps.specs.Number.{encodedUpTo}
-use Rattle.maps.proofs.Spelling.{encoded-small}
+use Rattle.maps.proofs.Spelling.{written-length, encoded-small}
 use Rattle.bytes.specs.Put.{Put}
 
 -- nothing is written
@@ -55,10 +55,18 @@ module _ {g x : ℕ} {before : List ℕ} {at : ℕ} where
   pub begun-none : x < 128 ^ suc g → Begun g x before before at at x
   begun-none l = record { low = []; left = g; count = omega arith; put = put-none before at; fits = l; whole = refl }
 
-  module _ {bytes : List ℕ} {to rest : ℕ} (room : at + suc g ≤ length before) (b : Begun g x before bytes at to rest) where
+  module _ {bytes : List ℕ} {to rest : ℕ} (room : at + length (encodedUpTo g x) ≤ length before) (b : Begun g x before bytes at to rest) where
     -- there is room for the next byte
     pub begun-room : to < length bytes
-    begun-room = omega (arith, b .put .end, b .put .wide, b .count)
+    begun-room =
+        omega (
+          arith,
+          b .put .end,
+          b .put .wide,
+          ap length (b .whole),
+          length-append (b .low) (encodedUpTo (b .left) rest),
+          written-length (b .left) rest,
+        )
 
     -- the next group: a rest of 128 or more has another byte after it
     pub begun-more : 128 ≤ rest → Begun g x before (set bytes to (128 + rest % 128)) at (to + 1) (rest / 128)
@@ -83,9 +91,10 @@ module _ {g x : ℕ} {before : List ℕ} {at : ℕ} where
             }
 
     -- the last group
-    pub begun-last : rest < 128 → Put (suc g) before (set bytes to rest) at (to + 1) (encodedUpTo g x)
+    pub begun-last : rest < 128 → Put (length (encodedUpTo g x)) before (set bytes to rest) at (to + 1) (encodedUpTo g x)
     begun-last l =
-        rw (b .whole, encoded-small (b .left) rest l) (put-then (suc g) (omega (arith, b .count)) (b .put) (put-byte bytes to rest begun-room))
+        let e : encodedUpTo g x ≡ b .low ++ (rest ∷ []) = b .whole ∙ ap (λ (r : List ℕ). b .low ++ r) (encoded-small (b .left) rest l) in
+        rw e (put-then _ (omega (arith, length-append (b .low) (rest ∷ []))) (b .put) (put-byte bytes to rest begun-room))
 
 -- one more element
 pub concat-more : {A : Type 0} (f : A → List ℕ) (xs : List A) (y : A) → concat (map f (xs ++ (y ∷ []))) ≡ concat (map f xs) ++ f y

@@ -3,7 +3,7 @@ ghost use mathlib.Core.Path.{_≡_};
 ghost use mathlib.Core.List.{_++_};
 ghost use Prim.Native.Nat.{_+_, _<_, _≤_};
 ghost use lib.ListN.{length, take, drop};
-ghost use Rattle.maps.specs.Number.{width, encoded, values};
+ghost use Rattle.maps.specs.Number.{encoded, bytesFor, values};
 ghost use Rattle.maps.specs.Outcome.{within};
 ghost use Rattle.bytes.specs.Put.{Put};
 ghost use Rattle.bytes.specs.Outcome.{Answered, numberAnswered, placeAnswered};
@@ -17,19 +17,27 @@ pub enum Outcome {
 
 // Writes x, seven bits in each byte and the low group first; the position after it.
 pub fn put(bytes: &mut [u8], at: usize, x: u32) -> usize
-    requires { ⌜ (x < values) × (at + width ≤ length (now bytes)) ⌝ }
-    ensures { λ r. ⌜ Put width (now (bytes .entry)) (now (bytes .exit)) at r (encoded x) ⌝ }
+    requires { ⌜ (x < values) × (at + bytesFor x ≤ length (now bytes)) ⌝ }
+    ensures { λ r. ⌜ Put (bytesFor x) (now (bytes .entry)) (now (bytes .exit)) at r (encoded x) ⌝ }
 {
-    let mut rest = x;
-    let mut to = at;
-    while 128 <= rest {
-        let group = 128 + rest % 128;
-        bytes[to] = group as u8;
-        rest /= 128;
-        to += 1;
+    if x < 128 {
+        bytes[at] = x as u8;
+        return at + 1;
     }
-    bytes[to] = rest as u8;
-    to + 1
+    let low = 128 + x % 128;
+    let rest = x / 128;
+    bytes[at] = low as u8;
+    let second = at + 1;
+    if rest < 128 {
+        bytes[second] = rest as u8;
+        return second + 1;
+    }
+    let middle = 128 + rest % 128;
+    let high = rest / 128;
+    bytes[second] = middle as u8;
+    let third = second + 1;
+    bytes[third] = high as u8;
+    third + 1
 }
 
 // Copies the first n bytes into the buffer.

@@ -1,6 +1,6 @@
 -- Every number is one of 0 to 8, and no plan is longer than `planMost`.
 use Prim.Native.Nat.{ℕ, _-_, _*_, _≤_, _<_}
-use mathlib.Core.Path.{_≡_, refl, ap}
+use mathlib.Core.Path.{_≡_, refl}
 use mathlib.Core.Bool.{Bool, true, false, cond, _&&_}
 use mathlib.Core.List.{List, [], _∷_, map, List·Memᴰ}
 use mathlib.Core.Logic.{_⊎_, inl, inr}
@@ -14,21 +14,20 @@ use Rattle.maps.specs.Cut.{logicNode}
 use Rattle.maps.specs.Legal.{Legal, latencyOfAll}
 use Rattle.maps.specs.Least.{at}
 use Rattle.maps.specs.Cover.{chosenCut, carryingCuts, used}
-use Rattle.maps.specs.Limits.{leavesRange, topRange, sizeRange, markRange, idRange}
-use Rattle.maps.specs.Number.{Bytes, width, encoded, encodedUpTo, bytesFor}
-use Rattle.maps.specs.Write.{idBytesMost}
+use Rattle.maps.specs.Limits.{leavesRange, topRange, horizonRange, sizeRange, markRange, idRange}
+use Rattle.maps.specs.Number.{Bytes, encoded, bytesFor}
+use Rattle.maps.specs.Sizes.{idBytesMost, rowBytesMost, planMost}
 use Rattle.maps.specs.Plan.{leavesOf, row, plan}
 use Rattle.maps.specs.WellFormed.{WellFormed}
 use Rattle.maps.proofs.Member.{All-of, All-map, below-out}
 use Rattle.maps.proofs.Over.{length-over}
 use Rattle.maps.proofs.Chosen.{best-in, carrying-sound}
 use Rattle.maps.specs.Outcome.{accepted, refusal, outcome, outcomeNumber}
-use Rattle.maps.proofs.Planned.{ordered}
+use Rattle.maps.proofs.Planned.{ordered, latency-in-time}
 use Rattle.maps.proofs.UsedNodes.{chosen-below}
-use Rattle.maps.proofs.Spelling.{written-length}
-use Rattle.maps.proofs.WrittenSize.{within-bytes}
+use Rattle.maps.proofs.WrittenSize.{plan-most, within-bytes}
 use Rattle.maps.proofs.Refusing.{refuses-number}
-use Rattle.customer.specs.Bounds.{rowMost, planMost, mapsPlanMost, Bounded}
+use Rattle.customer.specs.Bounds.{Bounded}
 use Rattle.customer.specs.Demands.{Ground, unread, uncut, tooLate, tooShort, planned}
 use Rattle.customer.proofs.Demands.{ground-of}
 
@@ -64,7 +63,7 @@ leaves-below S well L us v = go (mem v us) (logicNode S v) refl
 
 module _ (S : Sheet) (well : WellFormed S) (L : List Label) (ok : Legal S (at L) (S .horizon)) where
   -- the row of a node: step, level, mark, leaf count, leaves
-  row-length : (us : List ℕ) (v : ℕ) → v < size S → length (row S L us v) ≤ rowMost
+  row-length : (us : List ℕ) (v : ℕ) → v < size S → length (row S L us v) ≤ rowBytesMost
   row-length us v l =
       let ls = leavesOf S L us v in
       let few : length ls ≤ leavesRange .high = omega (arith, leaves-few S L us v, well .leaves .most) in
@@ -74,7 +73,7 @@ module _ (S : Sheet) (well : WellFormed S) (L : List Label) (ok : Legal S (at L)
       let count = within-bytes few in
       let level = within-bytes {n = at L v .level} {most = topRange .high} (omega (arith, ok .nodes v l .high, well .top .most)) in
       let mark = mark-length (mem v us) in
-      let step = written-length (width - 1) (at L v .step) in
+      let step = within-bytes {n = at L v .step} {most = horizonRange .high} (omega (arith, ok .nodes v l .ends, well .horizon .most)) in
       simp length-append (omega arith)
     where
       mark-length : (b : Bool) → bytesFor (cond b 1 0) ≤ bytesFor (markRange .high)
@@ -84,15 +83,11 @@ module _ (S : Sheet) (well : WellFormed S) (L : List Label) (ok : Legal S (at L)
   pub plan-length : length (plan S L) ≤ planMost
   unfolding plan
   plan-length =
-      let rows = concat-length (row S L (used S L)) rowMost (below (size S)) (All-of _ (below (size S)) (λ v m. row-length (used S L) v (below-out (size S) v m))) in
-      let latency = written-length (width - 1) (latencyOfAll S (at L)) in
+      let rows = concat-length (row S L (used S L)) rowBytesMost (below (size S)) (All-of _ (below (size S)) (λ v m. row-length (used S L) v (below-out (size S) v m))) in
+      let latency = within-bytes {n = latencyOfAll S (at L)} {most = horizonRange .high} (omega (arith, latency-in-time S (at L) (S .horizon) ok, well .horizon .most)) in
       let n = length-over (row S L (used S L)) [] (size S) in
-      let most = mul-le-mul-right rowMost (well .size .most) in
+      let most = mul-le-mul-right rowBytesMost (well .size .most) in
       simp length-append (omega arith)
-
-plan-most : planMost ≤ mapsPlanMost
-unfolding encodedUpTo
-plan-most = omega arith
 
 module _ (bytes : List ℕ) (room : ℕ) where
   number-most : {k p : ℕ} → Ground bytes room k p → k ≤ 8

@@ -1,5 +1,5 @@
 -- What the sheet writer promises, of every answer that is the defined outcome's.
-use Prim.Native.Nat.{ℕ, _≤_, _<_}
+use Prim.Native.Nat.{ℕ, _≤_}
 use mathlib.Core.Path.{_≡_, refl, sym, ap, _∙_}
 use mathlib.Core.Bool.{Bool, true, false}
 use mathlib.Core.List.{List}
@@ -9,23 +9,18 @@ use lib.Dec.{leb}
 use lib.ListN.{length, take}
 use borrow.Author.Tests.{leb-true, leb-false}
 use Rattle.maps.specs.Lists.{All}
-use Rattle.maps.specs.Number.{encodedUpTo}
 use Rattle.maps.specs.Reading.{ReadsAs}
 use Rattle.maps.specs.Form.{Rule, among, under, ground}
 use Rattle.maps.specs.Outcome.{accepted, refusal, outcomeNumber, outcomePlace}
 use Rattle.maps.specs.Records.{Records, sheetMeant, recordsOf}
 use Rattle.maps.specs.WriteLaws.{WriterLaws}
-use Rattle.maps.specs.Write.{Passes, First, numbers, spelling, sheetMost, writing}
+use Rattle.maps.specs.Write.{Passes, First, numbers, spelling, writing}
 use Rattle.maps.proofs.Written.{reproduced, meant-spelling}
-use Rattle.maps.proofs.WrittenSize.{numbers-most}
+use Rattle.maps.proofs.WrittenSize.{sheet-most, numbers-most}
 use Rattle.maps.proofs.WriteLaws.{writer-laws}
 use Rattle.bytes.specs.Outcome.{Answered}
 use Rattle.customer.specs.Stores.{Written, Refused, Stores, mapsSheetMost, StoreBounded}
 use Rattle.customer.proofs.Answers.{untouched, placed, front, back}
-
-sheet-most : sheetMost ≤ mapsSheetMost
-unfolding encodedUpTo
-sheet-most = omega arith
 
 module _ (R : Records) (buffer : List ℕ) (number place : ℕ) (after : List ℕ) (is : Answered (writing R (length buffer)) number place buffer after) where
   accepts : (bytes : List ℕ) → writing R (length buffer) ≡ accepted bytes → Written R buffer number place after bytes

@@ -3,8 +3,9 @@ ghost use Prim.Native.Nat.{_+_, _<_, _≤_};
 ghost use lib.ListN.{length};
 ghost use Rattle.maps.specs.Limits.{topRange, sizeRange};
 ghost use Rattle.maps.specs.Write.{headerEntries, headEntries};
+ghost use Rattle.maps.specs.Sizes.{headerBytesMost, headBytesMost, differenceBytesMost};
 ghost use Rattle.records.specs.Rows.{differencePlace, differenceEntries};
-ghost use Rattle.fields.specs.Wrote.{headerMost, headMost, differenceMost, Room, Wrote};
+ghost use Rattle.fields.specs.Wrote.{Room, Wrote};
 use fields::Position;
 use fields::Progress;
 use fields::put_field;
@@ -26,7 +27,7 @@ pub fn put_header(
     bytes: &mut [u8],
     position: Position,
 ) -> Progress
-    requires { ⌜ Room headerMost (now bytes) position ⌝ }
+    requires { ⌜ Room headerBytesMost (now bytes) position ⌝ }
     ensures { λ r. ⌜ Wrote (headerEntries leaves top horizon n m) (now (bytes .entry)) (now (bytes .exit)) position r ⌝ }
 {
     let leaves_put = put_field(bytes, position, Field::Leaves, leaves as u64);
@@ -56,7 +57,7 @@ pub fn put_head(
     bytes: &mut [u8],
     position: Position,
 ) -> Progress
-    requires { ⌜ (top ≤ topRange .high) × Room headMost (now bytes) position ⌝ }
+    requires { ⌜ (top ≤ topRange .high) × Room headBytesMost (now bytes) position ⌝ }
     ensures { λ r. ⌜ Wrote (headEntries top (row .kind) (row .output) (row .delay) (row .latency) count) (now (bytes .entry)) (now (bytes .exit)) position r ⌝ }
 {
     let kind = row.kind;
@@ -94,7 +95,7 @@ pub fn put_difference(
     bytes: &mut [u8],
     position: Position,
 ) -> Progress
-    requires { ⌜ (differencePlace (j + 1) ≤ length (now differences)) × (0 < n) × (n ≤ sizeRange .high) × Room differenceMost (now bytes) position ⌝ }
+    requires { ⌜ (differencePlace (j + 1) ≤ length (now differences)) × (0 < n) × (n ≤ sizeRange .high) × Room differenceBytesMost (now bytes) position ⌝ }
     ensures { λ r. ⌜ Wrote (differenceEntries n (now (differences .entry)) j) (now (bytes .entry)) (now (bytes .exit)) position r ⌝ }
 {
     let row = difference_at(differences, j);

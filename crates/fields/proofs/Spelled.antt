@@ -8,7 +8,6 @@ use Rattle.ranges.specs.declared.Span.{Span}
 use Rattle.ranges.specs.declared.Field.{Field}
 use Rattle.ranges.specs.declared.Field.the-variants as Is
 
--- every number of a field can be spelled
 pub field-small : (f : Field) {s : Span} → s ≡ spanOf (fieldRange f) → s .high < values
 field-small f e = omega (arith, ap (λ (r : Span). r .high) e, go f)
   where

@@ -1,26 +1,28 @@
 -- Laws of what a part of the sheet writer has done.
 use Prim.Native.Nat.{ℕ, zero, suc, _+_, _-_, _*_, _<_, _≤_}
-use mathlib.Core.Path.{_≡_, refl, sym, ap, _∙_}
+use mathlib.Core.Path.{_≡_, refl, sym, _∙_}
 use mathlib.Core.Bool.{Bool, true, false, _&&_}
 use mathlib.Core.List.{List, [], _∷_, _++_, map, append-nil, append-assoc, map-append}
 use native.Mathlib.Omega.{arith}
-use native.Mathlib.Nat.{add-zero}
+use native.Mathlib.Nat.{add-zero, suc-mul, mul-le-mul-right}
 use native.Mathlib.Numerals.{add-one}
 use lib.Dec.{leb}
 use lib.ListN.{length, length-append}
 use borrow.Author.Tests.{lt-leb, le-leb, lt-ltb, le-ltb}
 use Rattle.maps.specs.Lists.{All, below, concat}
-use Rattle.maps.specs.Limits.{range}
-use Rattle.maps.specs.Number.{width, encoded}
-use Rattle.maps.specs.Code.{numberOf, placeOf}
+use Rattle.maps.specs.Limits.{range, sizeRange}
+use Rattle.maps.specs.Number.{width, encoded, bytesFor}
 use Rattle.maps.specs.Form.{Rule, among, under, passes, ground}
+use Rattle.maps.specs.Sizes.{bytesMost}
 use Rattle.maps.specs.Write.{Entry, entry, Passes, First, valuesOf, spelled}
 use Rattle.maps.specs.declared.Refusal.{Refusal}
 use Rattle.maps.specs.declared.Refusal.the-variants.{Range, Operand}
-use Rattle.maps.proofs.Member.{All-join}
+use Rattle.maps.proofs.Member.{All-join, All-split}
+use Rattle.maps.proofs.Spelling.{written-length}
+use Rattle.maps.proofs.WrittenSize.{within-bytes, id-bytes, most-append}
 use Rattle.maps.proofs.Numbers.{spelled-append, first-later, first-sooner, concat-snoc}
 use Rattle.bytes.specs.Put.{Put}
-use Rattle.bytes.proofs.Putting.{put-none, put-then}
+use Rattle.bytes.proofs.Putting.{put-none, put-within, put-then}
 use Rattle.fields.specs.declared.Position.{Position}
 use Rattle.fields.specs.declared.Progress.{Progress}
 use Rattle.fields.specs.declared.Progress.the-variants.{Next, Refused}
@@ -44,21 +46,30 @@ module _ (bytes : List ℕ) (p : Position) (low high x : ℕ) where
   pub wrote-high : high < x → Wrote (entry (among (range low high)) x ∷ []) bytes bytes p (Refused (Range (p .number)))
   wrote-high l = failed 0 (fails-here (among (range low high)) x (rw (lt-leb x high l) (and-false (leb low x)))) (sym (add-zero (p .number))) refl
 
-  pub wrote-among : (after : List ℕ) (next : ℕ) → low ≤ x → x ≤ high → Put width bytes after (p .at) next (encoded x)
+  pub wrote-among : (after : List ℕ) (next : ℕ) → low ≤ x → x ≤ high → Put (bytesFor x) bytes after (p .at) next (encoded x)
       → Wrote (entry (among (range low high)) x ∷ []) bytes after p (Next (position next (p .number + 1)))
-  wrote-among after next l h w = passed {next = position next (p .number + 1)} (rw (le-leb low x l, le-leb x high h), tt) (rw (append-nil (encoded x)) w) refl
+  wrote-among after next l h w =
+      passed {next = position next (p .number + 1)} (rw (le-leb low x l, le-leb x high h), tt)
+      (rw (append-nil (encoded x)) (put-within _ (omega (arith, within-bytes h)) w)) refl
 
 module _ (bytes : List ℕ) (p : Position) (own x : ℕ) where
   pub wrote-own : own ≤ x → Wrote (entry (under own) x ∷ []) bytes bytes p (Refused (Operand (p .number)))
   wrote-own l = failed 0 (fails-here (under own) x (le-ltb x own l)) (sym (add-zero (p .number))) refl
 
-  pub wrote-under : (after : List ℕ) (next : ℕ) → x < own → Put width bytes after (p .at) next (encoded x)
+  pub wrote-under : (after : List ℕ) (next : ℕ) → own ≤ sizeRange .high → x < own → Put (bytesFor x) bytes after (p .at) next (encoded x)
       → Wrote (entry (under own) x ∷ []) bytes after p (Next (position next (p .number + 1)))
-  wrote-under after next l w = passed {next = position next (p .number + 1)} (lt-ltb x own l, tt) (rw (append-nil (encoded x)) w) refl
+  wrote-under after next o l w =
+      passed {next = position next (p .number + 1)} (lt-ltb x own l, tt) (rw (append-nil (encoded x)) (put-within _ (omega (arith, id-bytes {x = x} (omega arith))) w)) refl
 
 -- nothing yet
 pub wrote-none : (bytes : List ℕ) (p : Position) → Wrote [] bytes bytes p (Next p)
 wrote-none bytes p = passed tt (put-none bytes (p .at)) (sym (add-zero (p .number)))
+
+-- each number takes a byte or more
+byte-each : (es : List Entry) → length es ≤ length (spelled (valuesOf es))
+byte-each [] = omega arith
+byte-each (e ∷ es) =
+    omega (arith, length-append (encoded (e .value)) (spelled (valuesOf es)), written-length (width - 1) (e .value), byte-each es)
 
 -- one part after another
 wrote-stop : (es ds : List Entry) {a b : List ℕ} {p : Position} {w : Refusal} → Wrote es a b p (Refused w) → Wrote (es ++ ds) a b p (Refused w)
@@ -68,7 +79,7 @@ pub wrote-then : (es ds : List Entry) {a b c : List ℕ} {p next : Position} {r 
     → Wrote (es ++ ds) a c p r
 wrote-then es ds (passed good f n) (passed {next = last} more g m) =
     passed {next = last} (All-join Passes es ds good more)
-    (rw (map-append (λ (e : Entry). e .value) es ds, spelled-append (valuesOf es) (valuesOf ds)) (put-then _ (omega (arith, length-append es ds)) f g))
+    (rw (map-append (λ (e : Entry). e .value) es ds, spelled-append (valuesOf es) (valuesOf ds)) (put-then _ (omega (arith, most-append es ds)) f g))
     (omega (arith, length-append es ds))
 wrote-then es ds (passed good f n) (failed {w = w} j g q l) = failed {w = w} (length es + j) (first-later es ds _ j good g) (omega arith) (l ∙ f .wide)
 
@@ -93,28 +104,17 @@ pub wrote-wide : {es : List Entry} {a b : List ℕ} {p : Position} {r : Progress
 wrote-wide (passed good f n) = f .wide
 wrote-wide (failed j f q l) = l
 
--- how far n numbers at most have brought the position
-pub record Advances (n : ℕ) (a b : List ℕ) (p next : Position) : Type 0 where
-  pub near : next .at ≤ p .at + width * n
-  pub counted : next .number ≤ p .number + n
-  pub wide : length b ≡ length a
+-- how many numbers came before
+pub numbered : {es : List Entry} {a b : List ℕ} {p next : Position} → Wrote es a b p (Next next) → next .number ≡ p .number + length es
+numbered (passed good f n) = n
 
-pub advances : {es : List Entry} {a b : List ℕ} {p next : Position} → Wrote es a b p (Next next) → Advances (length es) a b p next
-advances (passed good f n) = record { near = f .near; counted = omega arith; wide = f .wide }
+-- what room is left after numbers that were written
+pub room-left : {es : List Entry} {k m : ℕ} {a b : List ℕ} {p next : Position} → Wrote es a b p (Next next) → bytesMost es + k ≤ m → Room m a p → Room k b next
+room-left {es} (passed good f n) l r =
+    record { space = omega (arith, f .near, f .wide, r .space); counted = omega (arith, f .end, n, r .counted, byte-each es) }
 
-pub advances-none : (a : List ℕ) (p : Position) → Advances 0 a a p p
-advances-none a p = record { near = omega arith; counted = omega arith; wide = refl }
-
-pub advances-then : {n m : ℕ} (k : ℕ) {a b c : List ℕ} {p next last : Position} → n + m ≤ k → Advances n a b p next → Advances m b c next last → Advances k a c p last
-advances-then k l f g =
-    record { near = omega (arith, f .near, g .near); counted = omega (arith, f .counted, g .counted); wide = g .wide ∙ f .wide }
-
--- and what room is left after them
-pub room-left : {n : ℕ} (k : ℕ) {m : ℕ} {a b : List ℕ} {p next : Position} → n + k ≤ m → Advances n a b p next → Room m a p → Room k b next
-room-left k l c r = record { space = omega (arith, c .near, c .wide, r .space); numbers = omega (arith, c .counted, r .numbers) }
-
-pub room-less : (k : ℕ) {m : ℕ} {a : List ℕ} {p : Position} → k ≤ m → Room m a p → Room k a p
-room-less k l r = record { space = omega (arith, r .space); numbers = omega (arith, r .numbers) }
+pub room-less : {k m : ℕ} {a : List ℕ} {p : Position} → k ≤ m → Room m a p → Room k a p
+room-less l r = record { space = omega (arith, r .space); counted = r .counted }
 
 -- rows in order: one more of them, and the rest after a refusal
 rows-more : (f : ℕ → List Entry) (j : ℕ) {a b c : List ℕ} {p next : Position} {r : Progress} → Wrote (concat (map f (below j))) a b p (Next next)
@@ -127,6 +127,23 @@ rows-split f (suc k) n =
     let q : n + suc k ≡ suc (n + k) = omega arith in
     rw (q, concat-snoc f (below (n + k)) (n + k), rows-split f k n, concat-snoc (λ j. f (n + j)) (below k) k)
     (append-assoc (concat (map f (below n))) (concat (map (λ j. f (n + j)) (below k))) (f (n + k)))
+
+-- rows that take at most so many bytes each, where their numbers pass
+pub rows-most : (f : ℕ → List Entry) {most : ℕ} → ((j : ℕ) → All Passes (f j) → bytesMost (f j) ≤ most) → (n : ℕ) {a b : List ℕ} {p next : Position}
+    → Wrote (concat (map f (below n))) a b p (Next next) → bytesMost (concat (map f (below n))) ≤ n * most
+rows-most f {most} h n (passed good g e) = go n good
+  where
+    go : (n : ℕ) → All Passes (concat (map f (below n))) → bytesMost (concat (map f (below n))) ≤ n * most
+    go zero p = omega arith
+    go (suc n) p =
+        let q = concat-snoc f (below n) n in
+        let s = All-split Passes (concat (map f (below n))) (f n) (rw q at p) in
+        rw q (omega (arith, most-append (concat (map f (below n))) (f n), go n (s .0), h n (s .1), suc-mul n most))
+
+-- the room for one more of them
+pub rows-room : (f : ℕ → List Entry) {most : ℕ} → ((j : ℕ) → All Passes (f j) → bytesMost (f j) ≤ most) → (j n : ℕ) → j < n
+    → {a b : List ℕ} {p next : Position} → Wrote (concat (map f (below j))) a b p (Next next) → Room (n * most) a p → Room most b next
+rows-room f {most} h j n l w = room-left w (omega (arith, rows-most f h j w, mul-le-mul-right most l, suc-mul j most))
 
 module _ (f : ℕ → List Entry) (j : ℕ) where
   pub rows-next : {a b c : List ℕ} {p next last : Position} {q : Progress} → q ≡ Next last → Wrote (concat (map f (below j))) a b p (Next next)

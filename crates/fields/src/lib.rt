@@ -1,10 +1,11 @@
 // A number of the sheet, judged as the reader judges it and then written.
 ghost use mathlib.Core.List.{[], _∷_};
 ghost use Prim.Native.Nat.{_<_, _≤_};
-ghost use Rattle.maps.specs.Number.{values};
+ghost use Rattle.maps.specs.Number.{values, bytesFor};
 ghost use Rattle.maps.specs.Limits.{sizeRange};
 ghost use Rattle.maps.specs.Form.{among, under};
 ghost use Rattle.maps.specs.Write.{entry};
+ghost use Rattle.maps.specs.Sizes.{idBytesMost};
 ghost use Rattle.ranges.specs.Ranges.{spanMeant, fieldRange};
 ghost use Rattle.fields.specs.Wrote.{Room, Wrote};
 use bytes::put;
@@ -27,7 +28,7 @@ pub enum Progress {
 
 // Writes a number in a range.
 pub fn put_in(bytes: &mut [u8], position: Position, span: Span, x: u64) -> Progress
-    requires { ⌜ (span .high < values) × Room 1 (now bytes) position ⌝ }
+    requires { ⌜ (span .high < values) × Room (bytesFor (span .high)) (now bytes) position ⌝ }
     ensures { λ r. ⌜ Wrote (entry (among (spanMeant span)) x ∷ []) (now (bytes .entry)) (now (bytes .exit)) position r ⌝ }
 {
     let low = span.low;
@@ -48,7 +49,7 @@ pub fn put_in(bytes: &mut [u8], position: Position, span: Span, x: u64) -> Progr
 
 // Writes a number in the range of its field.
 pub fn put_field(bytes: &mut [u8], position: Position, field: Field, x: u64) -> Progress
-    requires { ⌜ Room 1 (now bytes) position ⌝ }
+    requires { ⌜ Room (bytesFor (fieldRange field .high)) (now bytes) position ⌝ }
     ensures { λ r. ⌜ Wrote (entry (among (fieldRange field)) x ∷ []) (now (bytes .entry)) (now (bytes .exit)) position r ⌝ }
 {
     let span = range_of(field);
@@ -57,7 +58,7 @@ pub fn put_field(bytes: &mut [u8], position: Position, field: Field, x: u64) -> 
 
 // Writes an operand of the node own.
 pub fn put_operand(bytes: &mut [u8], position: Position, own: u32, x: u32) -> Progress
-    requires { ⌜ (own ≤ sizeRange .high) × Room 1 (now bytes) position ⌝ }
+    requires { ⌜ (own ≤ sizeRange .high) × Room idBytesMost (now bytes) position ⌝ }
     ensures { λ r. ⌜ Wrote (entry (under own) x ∷ []) (now (bytes .entry)) (now (bytes .exit)) position r ⌝ }
 {
     let number = position.number;

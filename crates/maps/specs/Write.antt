@@ -6,12 +6,12 @@ use mathlib.Core.List.{List, [], _∷_, _++_, map}
 use lib.IntN.{ℤ, pos, negsuc}
 use lib.ListN.{length}
 use Rattle.maps.specs.Lists.{All, concat}
-use Rattle.maps.specs.Number.{encoded, encodedUpTo, bytesFor}
-use Rattle.maps.specs.Limits.{leavesRange, topRange, horizonRange, sizeRange, countRange, kindRange, markRange, idRange, weightRange, operandsMost, latencyMost, rangesOf}
+use Rattle.maps.specs.Number.{encoded, encodedUpTo}
+use Rattle.maps.specs.Limits.{leavesRange, topRange, horizonRange, sizeRange, countRange, kindRange, markRange, idRange, weightRange, rangesOf}
 use Rattle.maps.specs.Sheet.{Sheet}
 use Rattle.maps.specs.Form.{Rule, among, under, passes, ground}
 use Rattle.maps.specs.Records.{NodeRecord, DifferenceRecord, Records, recordsOf}
-use Rattle.maps.specs.Outcome.{Outcome, accepted, refusal, within}
+use Rattle.maps.specs.Outcome.{Outcome, refusal, within}
 
 -- a number of the sheet, with what the reader asks of it
 pub record Entry : Type 0 where
@@ -87,27 +87,6 @@ spelled ns = concat (map encoded ns)
 unfoldable pub spelling : Sheet → List ℕ
 unfolding numbers encodedUpTo
 spelling S = spelled (valuesOf (numbers (recordsOf S)))
-
--- Bytes that no sheet exceeds: each number takes at most those of the greatest in its range. The header; a node, of any kind; a difference; all of it.
-abbrev pub headerBytesMost : ℕ
-headerBytesMost =
-    bytesFor (leavesRange .high) + bytesFor (topRange .high) + bytesFor (horizonRange .high) + bytesFor (sizeRange .high) + bytesFor (countRange .high)
-
-abbrev pub headBytesMost : ℕ
-headBytesMost =
-    bytesFor (kindRange .high) + bytesFor (markRange .high) + bytesFor (topRange .high) + bytesFor latencyMost + bytesFor operandsMost
-
-abbrev pub idBytesMost : ℕ
-idBytesMost = bytesFor (idRange (sizeRange .high) .high)
-
-abbrev pub nodeBytesMost : ℕ
-nodeBytesMost = headBytesMost + operandsMost * idBytesMost
-
-abbrev pub differenceBytesMost : ℕ
-differenceBytesMost = idBytesMost + idBytesMost + bytesFor (weightRange .high)
-
-abbrev pub sheetMost : ℕ
-sheetMost = headerBytesMost + sizeRange .high * nodeBytesMost + countRange .high * differenceBytesMost
 
 -- the number is as the reader asks
 abbrev pub Passes : Entry → Type 0

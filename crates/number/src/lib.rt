@@ -1,8 +1,7 @@
 // Numbers of a sheet, read at a cursor.
-ghost use Prim.Native.Nat.{_+_, _-_, _<_};
 ghost use mathlib.Core.Path.{_≡_};
 ghost use lib.ListN.{length};
-ghost use Rattle.maps.specs.Number.{width, above, groups, number, refusal};
+ghost use Rattle.maps.specs.Number.{number, refusal};
 ghost use Rattle.maps.specs.Form.{inRange, operand};
 ghost use Rattle.number.specs.Code.{numberMeant};
 ghost use Rattle.ranges.specs.Ranges.{spanMeant, fieldRange};
@@ -36,40 +35,6 @@ fn ended(sheet: &[u8]) -> Number
     Number::Refused(Refusal::Ended(sheet.len()))
 }
 
-// The bytes of a number after the first, at most.
-const MORE: u32 = 2;
-
-// The number at a cursor whose first byte has another after it: `low` is its low group. Each group counts 128 times as much as the one before it.
-fn longer_at(sheet: &[u8], c: Cursor, low: u32) -> Number
-    requires { ⌜ (low < 128) × (c .at < length (now sheet)) ⌝ }
-    ensures { λ r. ⌜ numberMeant r ≡ above low (groups (width - 1) (c .at) (now (sheet .entry)) (c .at + 1)) ⌝ }
-{
-    let mut value = low;
-    let mut unit: u32 = 128;
-    let mut at = c.at + 1;
-    let mut left = MORE;
-    while 0 < left {
-        if sheet.len() <= at {
-            return ended(sheet);
-        }
-        let group = sheet[at] as u32;
-        if group == 0 {
-            return Number::Refused(Refusal::Spelling(c.at));
-        }
-        if group < 128 {
-            return Number::Value {
-                value: value + unit * group,
-                next: Cursor { at: at + 1 },
-            };
-        }
-        value += unit * (group - 128);
-        unit *= 128;
-        at += 1;
-        left -= 1;
-    }
-    Number::Refused(Refusal::Spelling(c.at))
-}
-
 // The number at a cursor.
 pub fn number_at(sheet: &[u8], c: Cursor) -> Number
     ensures { λ r. ⌜ numberMeant r ≡ number (now (sheet .entry)) (c .at) ⌝ }
@@ -79,13 +44,45 @@ pub fn number_at(sheet: &[u8], c: Cursor) -> Number
         return ended(sheet);
     }
     let low = sheet[at] as u32;
+    let second = at + 1;
     if low < 128 {
         return Number::Value {
             value: low,
-            next: Cursor { at: at + 1 },
+            next: Cursor { at: second },
         };
     }
-    longer_at(sheet, c, low - 128)
+    if sheet.len() <= second {
+        return ended(sheet);
+    }
+    let middle = sheet[second] as u32;
+    if middle == 0 {
+        return Number::Refused(Refusal::Spelling(at));
+    }
+    let third = second + 1;
+    if middle < 128 {
+        let value = low - 128 + 128 * middle;
+        return Number::Value {
+            value,
+            next: Cursor { at: third },
+        };
+    }
+    if third < sheet.len() {
+        let high = sheet[third] as u32;
+        if high == 0 {
+            return Number::Refused(Refusal::Spelling(at));
+        }
+        if 128 <= high {
+            return Number::Refused(Refusal::Spelling(at));
+        }
+        let above = middle - 128 + 128 * high;
+        let value = low - 128 + 128 * above;
+        let after = third + 1;
+        return Number::Value {
+            value,
+            next: Cursor { at: after },
+        };
+    }
+    ended(sheet)
 }
 
 // The number at a cursor, in a range.

@@ -1,29 +1,24 @@
 -- What planning from the tables rests on, and the outcome that each way out comes to.
-use Prim.Native.Nat.{ℕ, suc, _+_, _≤_, _<_, max}
-use mathlib.Core.Path.{_≡_, refl, sym, ap, _∙_}
+use Prim.Native.Nat.{ℕ, _+_, _≤_, _<_}
+use mathlib.Core.Path.{_≡_, sym, ap, _∙_}
 use mathlib.Core.Bool.{true}
-use mathlib.Core.List.{List, [], _∷_, _++_, foldr}
+use mathlib.Core.List.{List, []}
 use native.Mathlib.Omega.{arith}
-use lib.ListN.{length, getD, set, take, drop}
-use lib.Seq.{length-take-le, take-suc, drop-cons, append-snoc, set-at}
-use native.Mathlib.Numerals.{add-one}
-use borrow.Author.Tests.{le-leb, lt-leb}
-use Rattle.maps.specs.Lists.{All, below}
+use lib.ListN.{getD}
 use Rattle.maps.specs.Label.{Label, earliest}
 use Rattle.maps.specs.Sheet.{Sheet, Kind, input, logic, box, node, size, latency, isLogic}
 use Rattle.maps.specs.Cut.{logicNode}
-use Rattle.maps.specs.Legal.{readyOf, Carried, CarryingCut, Legal, latencyOfAll}
+use Rattle.maps.specs.Legal.{Carried, CarryingCut, Legal, latencyOfAll}
 use Rattle.maps.specs.Least.{at, least, leastLabels}
 use Rattle.maps.specs.Plan.{plan}
 use Rattle.maps.specs.Read.{Header, sheet, refused, parse}
 use Rattle.maps.specs.Outcome.{refusal, within, timed, cutless, covered, parsed, outcome}
-use Rattle.maps.proofs.Member.{All-of, below-out}
+use Rattle.maps.proofs.Planned.{latency-in-time}
 use Rattle.maps.proofs.Over.{getD-over}
 use Rattle.maps.proofs.Enumerate.{clash}
 use Rattle.rows.specs.Code.{headerMeant}
 use Rattle.rows.specs.declared.Header as R
 use Rattle.sheet.proofs.After.{Held}
-use Rattle.relax.proofs.Closed.{ready-step}
 use Rattle.bound.specs.Lookup.{labelIn, labelsIn, Soon}
 use Rattle.bound.specs.Going.{Given, AllKept}
 use Rattle.level.specs.Cuts.{Lowest}
@@ -32,14 +27,6 @@ use Rattle.maps.specs.Limits.{leavesRange, horizonRange}
 use Rattle.cover.specs.Cover.{Covered}
 use Rattle.writing.specs.Bytes.{Small, flatPlan}
 use Rattle.writing.proofs.PlanBytes.{plan-bytes}
-
--- a bound on every ready step bounds the latency
-latency-most : (S : Sheet) (L : ℕ → Label) (b : ℕ) → ((v : ℕ) → v < size S → readyOf S L v .step ≤ b) → latencyOfAll S L ≤ b
-latency-most S L b h = go (below (size S)) (All-of (λ v. v < size S) (below (size S)) (λ v m. below-out (size S) v m))
-  where
-    go : (vs : List ℕ) → All (λ v. v < size S) vs → foldr (λ v s. max (readyOf S L v .step) s) 0 vs ≤ b
-    go [] w = omega arith
-    go (v ∷ vs) w = omega (arith, h v (w .0), go vs (w .1))
 
 -- a logic node with a legal label has a cut that carries it
 pub legal-carries : (S : Sheet) (L : ℕ → Label) (H : ℕ) → Legal S L H → (v : ℕ) → v < size S → logicNode S v ≡ true → CarryingCut S L v
@@ -76,20 +63,13 @@ module _ {S : Sheet} {graph differences : List ℕ} {limits : R.Header} (steps l
     e = q ∙ ap (λ (n : ℕ). latencyOfAll S (at (labelsIn n steps levels))) (k .nodes)
 
     last-most : last ≤ horizonRange .high
-    last-most =
-        omega (
-          arith,
-          e,
-          k .well .horizon .most,
-          latency-most S (at (labelsIn (size S) steps levels)) (S .horizon)
-              (λ v l. omega (arith, ready-step (latency S v) (at (labelsIn (size S) steps levels) v), ok .nodes v l .ends)),
-        )
+    last-most = omega (arith, e, k .well .horizon .most, latency-in-time S (at (labelsIn (size S) steps levels)) (S .horizon) ok)
 
     pub small : Small last (limits .nodes) steps levels
     small =
         record {
           nodes = few-nodes;
-          latest = omega (arith, last-most);
+          latest = last-most;
           step = λ v m. omega (arith, ends v (omega (arith, k .nodes)), k .well .horizon .most);
           level = λ v m.
               let i : v < size S = omega (arith, k .nodes) in

@@ -5,7 +5,7 @@ use mathlib.Core.List.{List}
 use lib.ListN.{take}
 use Rattle.maps.specs.Outcome.{Outcome, refusal, within, outcome}
 use Rattle.maps.specs.Code.{numberOf, placeOf}
-use Rattle.writing.specs.Writing.{planRoom}
+use Rattle.maps.specs.Sizes.{planMost}
 use Rattle.planner.specs.declared.call.Draft.{Draft}
 use Rattle.planner.specs.declared.call.Draft.the-variants as D
 
@@ -19,5 +19,5 @@ Made sheet bytes r = (room : ℕ) → outcome sheet room ≡ madeMeant bytes r r
 
 -- and the plan's length is one that the local buffer has
 abbrev pub Short : Draft → Type 0
-Short (D.Plan n) = n ≤ planRoom
+Short (D.Plan n) = n ≤ planMost
 Short (D.Refused w) = Unit {0}

@@ -11,7 +11,7 @@ ghost use Rattle.maps.specs.Outcome.{timed, cutless, covered, outcome};
 ghost use Rattle.rows.specs.Table.{Falling};
 ghost use Rattle.bound.specs.Lookup.{labelsIn};
 ghost use Rattle.bound.specs.Going.{Given, AllKept};
-ghost use Rattle.writing.specs.Writing.{planRoom};
+ghost use Rattle.maps.specs.Sizes.{planMost};
 ghost use Rattle.bytes.specs.Outcome.{Answered, numberAnswered, placeAnswered};
 ghost use Rattle.planner.specs.Call.{Made, Short, madeMeant};
 use bound::Levels;
@@ -50,10 +50,10 @@ pub fn plan_labels(
 ) -> usize
     requires { ⌜ Falling (now graph) ⌝ }
     requires { ⌜ ((S : Sheet) × (differences : List ℕ) × Given S (now graph) differences limits × Legal S (at (labelsIn (size S) (now steps) (now levels))) (S .horizon)) ⌝ }
-    requires { ⌜ length (now bytes) ≡ planRoom ⌝ }
+    requires { ⌜ length (now bytes) ≡ planMost ⌝ }
     ensures { λ r. ⌜ ((S : Sheet) (differences : List ℕ) → Given S (now (graph .entry)) differences limits → Legal S (at (labelsIn (size S) (now (steps .entry)) (now (levels .entry)))) (S .horizon)
         → take r (now (bytes .exit)) ≡ plan S (labelsIn (size S) (now (steps .entry)) (now (levels .entry)))) ⌝ }
-    ensures { λ r. ⌜ r ≤ planRoom ⌝ }
+    ensures { λ r. ⌜ r ≤ planMost ⌝ }
 {
     let mut used = [0u8; 256];
     let mut cuts = [0u32; 2048];
@@ -72,7 +72,7 @@ pub fn plan_kept(
 ) -> Draft
     requires { ⌜ Falling (now graph) ⌝ }
     requires { ⌜ ((S : Sheet) × Given S (now graph) (now differences) limits × AllKept S (now kept) × (cutless S ≡ [])) ⌝ }
-    requires { ⌜ length (now bytes) ≡ planRoom ⌝ }
+    requires { ⌜ length (now bytes) ≡ planMost ⌝ }
     ensures { λ r. ⌜ ((S : Sheet) → Given S (now (graph .entry)) (now (differences .entry)) limits → AllKept S (now (kept .entry)) → cutless S ≡ []
         → (room : ℕ) → timed S room (leastLabels S) ≡ madeMeant (now (bytes .exit)) r room) ⌝ }
     ensures { λ r. ⌜ Short r ⌝ }
@@ -95,7 +95,7 @@ pub fn plan_tables(
 ) -> Draft
     requires { ⌜ Falling (now graph) ⌝ }
     requires { ⌜ ((S : Sheet) × Given S (now graph) (now differences) limits) ⌝ }
-    requires { ⌜ length (now bytes) ≡ planRoom ⌝ }
+    requires { ⌜ length (now bytes) ≡ planMost ⌝ }
     ensures { λ r. ⌜ ((S : Sheet) → Given S (now (graph .entry)) (now (differences .entry)) limits
         → (room : ℕ) → covered S room (cutless S) ≡ madeMeant (now (bytes .exit)) r room) ⌝ }
     ensures { λ r. ⌜ Short r ⌝ }
@@ -110,7 +110,7 @@ pub fn plan_tables(
 
 // Makes the plan of a sheet, whatever the room.
 pub fn make_plan(sheet: &[u8], bytes: &mut PlanBytes) -> Draft
-    requires { ⌜ length (now bytes) ≡ planRoom ⌝ }
+    requires { ⌜ length (now bytes) ≡ planMost ⌝ }
     ensures { λ r. ⌜ Made (now (sheet .entry)) (now (bytes .exit)) r ⌝ }
     ensures { λ r. ⌜ Short r ⌝ }
 {
@@ -127,7 +127,7 @@ pub fn make_plan(sheet: &[u8], bytes: &mut PlanBytes) -> Draft
 pub fn plan(sheet: &[u8], buffer: &mut [u8]) -> Outcome
     ensures { λ r. ⌜ Answered (outcome (now (sheet .entry)) (length (now (buffer .entry)))) (numberAnswered r) (placeAnswered r) (now (buffer .entry)) (now (buffer .exit)) ⌝ }
 {
-    let mut bytes = [0u8; 7683];
+    let mut bytes = [0u8; 4611];
     let draft = make_plan(sheet, &mut bytes);
     match draft {
         Draft::Refused(why) => Outcome::Refused(why),

@@ -1,5 +1,5 @@
 -- The code's tables of field ranges are document 01's.
-use Prim.Native.Nat.{ℕ, zero, suc, _-_, _≤_, _<_, min}
+use Prim.Native.Nat.{ℕ, zero, suc, _-_, _≤_, min}
 use mathlib.Core.Path.{_≡_, refl, ap, _∙_}
 use native.Mathlib.Omega.{arith}
 use Rattle.maps.specs.Limits.{range, rangesOf, topRange, sizeRange, operandsMost, latencyMost, idRange}

@@ -25,6 +25,7 @@ use Rattle.maps.proofs.Over.{total, total-mono, length-over, getD-over}
 use Rattle.maps.proofs.Member.{zeros-at, All-at, All-of, All-ids, All-get, mem-in, mem-out, index-mem, below-out}
 use Rattle.maps.proofs.Fix.{label-path, is-least, is-late}
 use Rattle.maps.proofs.Planned.{delays, operands-below, least-right}
+use Rattle.maps.proofs.Order.{ready-step}
 use Rattle.rows.specs.Table.{delayIn, latencyIn, operandIn, fromIn, toIn, plusIn, minusIn, noDifference, differenceAt, Tabled}
 use Rattle.rows.specs.declared.Header as R
 use Rattle.rows.specs.Cells.{Ends}
@@ -33,7 +34,7 @@ use Rattle.relax.specs.Guard.{Kept}
 use Rattle.relax.specs.Settle.{Pass, Passing}
 use Rattle.relax.specs.Sweep.{Sweeping}
 use Rattle.relax.specs.Hold.{Held, at-zero, by-operand, by-difference}
-use Rattle.relax.proofs.Closed.{Closed, well-closed, inside, ready-step}
+use Rattle.relax.proofs.Closed.{Closed, well-closed, inside}
 use Rattle.relax.proofs.Guard.{legal-node, legal-diffs, ok-legal}
 use Rattle.relax.proofs.Forced.{ok-same}
 use Rattle.relax.proofs.Held.{well-climb, held-bound}

@@ -1,27 +1,26 @@
 -- The numbers of a whole sheet from the rows, and what a sheet made, or not made, says of the outcome.
-use Prim.Native.Nat.{ℕ, zero, suc, _+_, _-_, _*_, _/_, _≤_, _<_}
-use mathlib.Core.Path.{_≡_, refl, sym, ap, _∙_}
+use Prim.Native.Nat.{ℕ, _+_, _*_, _≤_}
+use mathlib.Core.Path.{_≡_, refl, ap, _∙_}
 use mathlib.Core.List.{List, [], _∷_, _++_, map}
 use native.Mathlib.Omega.{arith}
-use lib.ListN.{length, take, length-append, length-map, length-take}
-use Rattle.maps.specs.Lists.{All, below, concat}
+use native.Mathlib.Nat.{mul-le-mul-right}
+use lib.ListN.{length, take, length-map, length-take}
+use Rattle.maps.specs.Lists.{below, concat}
 use Rattle.maps.specs.Limits.{topRange, sizeRange, countRange}
 use Rattle.maps.specs.Code.{numberOf, placeOf}
 use Rattle.maps.specs.Outcome.{refusal, within}
 use Rattle.maps.specs.Records.{Records}
-use Rattle.maps.specs.Write.{Entry, headerEntries, Passes, numbers, nodeNumbers, differenceNumbers, writing}
+use Rattle.maps.specs.Write.{Entry, headerEntries, numbers, nodeNumbers, differenceNumbers, writing}
+use Rattle.maps.specs.Sizes.{headerBytesMost, nodeBytesMost, differenceBytesMost, sheetMost}
 use Rattle.maps.specs.declared.Refusal.{Refusal}
 use Rattle.maps.proofs.Over.{length-below}
-use Rattle.maps.proofs.Member.{All-split}
 use Rattle.maps.proofs.Parse.{in-range}
-use Rattle.maps.proofs.Numbers.{concat-snoc, each-below}
+use Rattle.maps.proofs.Numbers.{each-below}
 use Rattle.maps.proofs.Written.{passes-writing, first-refused}
 use Rattle.records.specs.Rows.{nodePlace, differencePlace, rowsIn, nodeIn, differenceIn, nodeEntries, differenceEntries, recordsIn}
-use Rattle.fields.specs.Wrote.{nodeMost, numbersMost, sheetRoom, start, Room, Wrote, passed, failed}
+use Rattle.fields.specs.Wrote.{start, Room, Wrote, passed, failed}
 use Rattle.fields.specs.declared.Position.{Position}
 use Rattle.fields.specs.declared.Progress.the-variants.{Next, Refused}
-use Rattle.fields.proofs.WroteLaws.{Advances}
-use Rattle.writer.proofs.NodeRows.{node-most}
 
 -- a header whose numbers pass
 pub record Limited (t n m : ℕ) : Type 0 where
@@ -35,23 +34,13 @@ limited k t h n m (passed good f e) =
     let size = in-range sizeRange n (good .1 .1 .1 .0) in
     record { top = in-range topRange t (good .1 .0) .most; some = size .least; nodes = size .most; differences = in-range countRange m (good .1 .1 .1 .1 .0) .most }
 
--- there is room for a whole sheet
-pub room-whole : {bytes : List ℕ} → length bytes ≡ sheetRoom → Room numbersMost bytes start
-room-whole e = record { space = omega (arith, e); numbers = omega arith }
+-- no sheet exceeds the bytes of the longest
+pub parts-most : {t n m : ℕ} → Limited t n m → headerBytesMost + n * nodeBytesMost + m * differenceBytesMost ≤ sheetMost
+parts-most l = omega (arith, mul-le-mul-right nodeBytesMost (l .nodes), mul-le-mul-right differenceBytesMost (l .differences))
 
--- n nodes that pass have at most n times the numbers of one
-pub nodes-advance : (t : ℕ) (nodes operands : List ℕ) (n : ℕ) {a b : List ℕ} {p next : Position} → Wrote (concat (map (nodeEntries t nodes operands) (below n))) a b p (Next next)
-    → Advances (n * nodeMost) a b p next
-nodes-advance t nodes operands n (passed good f e) =
-    record { near = omega (arith, f .near, go n good); counted = omega (arith, e, go n good); wide = f .wide }
-  where
-    go : (n : ℕ) → All Passes (concat (map (nodeEntries t nodes operands) (below n))) → length (concat (map (nodeEntries t nodes operands) (below n))) ≤ n * nodeMost
-    go zero h = omega arith
-    go (suc n) h =
-        let q = concat-snoc (nodeEntries t nodes operands) (below n) n in
-        let s = All-split Passes (concat (map (nodeEntries t nodes operands) (below n))) (nodeEntries t nodes operands n) (rw q at h) in
-        let l = length-append (concat (map (nodeEntries t nodes operands) (below n))) (nodeEntries t nodes operands n) in
-        rw q (omega (arith, l, go n (s .0), node-most t nodes operands n (s .1)))
+-- there is room for a whole sheet
+pub room-whole : {bytes : List ℕ} → length bytes ≡ sheetMost → Room sheetMost bytes start
+room-whole e = record { space = omega (arith, e); counted = omega arith }
 
 rows-map : {A : Type 0} (f : A → List Entry) (row : ℕ → A) (xs : List ℕ) → concat (map f (map row xs)) ≡ concat (map (λ j. f (row j)) xs)
 rows-map f row [] = refl

@@ -7,8 +7,9 @@ ghost use Rattle.maps.specs.Lists.{below, concat};
 ghost use Rattle.maps.specs.Limits.{topRange, sizeRange};
 ghost use Rattle.maps.specs.Form.{under};
 ghost use Rattle.maps.specs.Write.{entry};
+ghost use Rattle.maps.specs.Sizes.{idBytesMost, nodeBytesMost, differenceBytesMost};
 ghost use Rattle.records.specs.Rows.{nodePlace, differencePlace, endOf, nodeEntries, differenceEntries};
-ghost use Rattle.fields.specs.Wrote.{nodeMost, differenceMost, Room, Wrote};
+ghost use Rattle.fields.specs.Wrote.{Room, Wrote};
 use entries::put_difference;
 use entries::put_head;
 use fields::Position;
@@ -26,7 +27,7 @@ pub fn put_operands(
     bytes: &mut [u8],
     position: Position,
 ) -> Progress
-    requires { ⌜ (first + count ≤ length (now operands)) × (own ≤ sizeRange .high) × Room count (now bytes) position ⌝ }
+    requires { ⌜ (first + count ≤ length (now operands)) × (own ≤ sizeRange .high) × Room (count * idBytesMost) (now bytes) position ⌝ }
     ensures { λ r. ⌜ Wrote (map (entry (under own)) (take count (drop first (now (operands .entry))))) (now (bytes .entry)) (now (bytes .exit)) position r ⌝ }
 {
     let mut to = position;
@@ -54,7 +55,7 @@ pub fn put_node(
     position: Position,
 ) -> Progress
     requires { ⌜ (nodePlace (v + 1) ≤ length (now nodes)) × (v < sizeRange .high) × (first ≡ endOf (now nodes) (now operands) v) ⌝ }
-    requires { ⌜ (top ≤ topRange .high) × Room nodeMost (now bytes) position ⌝ }
+    requires { ⌜ (top ≤ topRange .high) × Room nodeBytesMost (now bytes) position ⌝ }
     ensures { λ r. ⌜ Wrote (nodeEntries top (now (nodes .entry)) (now (operands .entry)) v) (now (bytes .entry)) (now (bytes .exit)) position r ⌝ }
 {
     let row = node_at(nodes, v);
@@ -79,7 +80,7 @@ pub fn put_nodes(
     bytes: &mut [u8],
     position: Position,
 ) -> Progress
-    requires { ⌜ (nodePlace n ≤ length (now nodes)) × (n ≤ sizeRange .high) × (top ≤ topRange .high) × Room (n * nodeMost) (now bytes) position ⌝ }
+    requires { ⌜ (nodePlace n ≤ length (now nodes)) × (n ≤ sizeRange .high) × (top ≤ topRange .high) × Room (n * nodeBytesMost) (now bytes) position ⌝ }
     ensures { λ r. ⌜ Wrote (concat (map (nodeEntries top (now (nodes .entry)) (now (operands .entry))) (below n))) (now (bytes .entry)) (now (bytes .exit)) position r ⌝ }
 {
     let mut to = position;
@@ -105,7 +106,7 @@ pub fn put_differences(
     bytes: &mut [u8],
     position: Position,
 ) -> Progress
-    requires { ⌜ (differencePlace m ≤ length (now differences)) × (0 < n) × (n ≤ sizeRange .high) × Room (m * differenceMost) (now bytes) position ⌝ }
+    requires { ⌜ (differencePlace m ≤ length (now differences)) × (0 < n) × (n ≤ sizeRange .high) × Room (m * differenceBytesMost) (now bytes) position ⌝ }
     ensures { λ r. ⌜ Wrote (concat (map (differenceEntries n (now (differences .entry))) (below m))) (now (bytes .entry)) (now (bytes .exit)) position r ⌝ }
 {
     let mut to = position;

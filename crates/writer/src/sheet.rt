@@ -2,9 +2,10 @@
 ghost use mathlib.Core.Path.{_≡_};
 ghost use lib.ListN.{length};
 ghost use Rattle.maps.specs.Write.{numbers, writing};
+ghost use Rattle.maps.specs.Sizes.{sheetMost};
 ghost use Rattle.bytes.specs.Outcome.{Answered, numberAnswered, placeAnswered};
 ghost use Rattle.records.specs.Rows.{recordsIn};
-ghost use Rattle.fields.specs.Wrote.{sheetRoom, start, Wrote};
+ghost use Rattle.fields.specs.Wrote.{start, Wrote};
 use crate::parts::put_differences;
 use crate::parts::put_nodes;
 use bytes::Outcome;
@@ -15,8 +16,8 @@ use fields::Progress;
 use records::difference_count;
 use records::node_count;
 
-// Room for every number of the longest sheet in three bytes.
-pub type SheetBytes = [u8; 17679];
+// Room for the longest sheet.
+pub type SheetBytes = [u8; 11785];
 
 // Makes the sheet, whatever the room.
 pub fn make_sheet(
@@ -28,7 +29,7 @@ pub fn make_sheet(
     differences: &[u32],
     bytes: &mut SheetBytes,
 ) -> Progress
-    requires { ⌜ length (now bytes) ≡ sheetRoom ⌝ }
+    requires { ⌜ length (now bytes) ≡ sheetMost ⌝ }
     ensures { λ r. ⌜ Wrote (numbers (recordsIn leaves top horizon (now (nodes .entry)) (now (operands .entry)) (now (differences .entry))))
         (now (bytes .entry)) (now (bytes .exit)) start r ⌝ }
 {
@@ -66,7 +67,7 @@ pub fn write(
     ensures { λ r. ⌜ Answered (writing (recordsIn leaves top horizon (now (nodes .entry)) (now (operands .entry)) (now (differences .entry))) (length (now (buffer .entry))))
         (numberAnswered r) (placeAnswered r) (now (buffer .entry)) (now (buffer .exit)) ⌝ }
 {
-    let mut bytes = [0u8; 17679];
+    let mut bytes = [0u8; 11785];
     let made = make_sheet(
         leaves,
         top,

@@ -1,16 +1,17 @@
 // Plans, written as bytes.
 ghost use mathlib.Core.Path.{_≡_};
 ghost use mathlib.Core.List.{_++_, map};
-ghost use Prim.Native.Nat.{ℕ, _+_, _<_, _≤_};
+ghost use Prim.Native.Nat.{ℕ, _+_, _*_, _<_, _≤_};
 ghost use lib.ListN.{length, take, getD};
 ghost use Rattle.maps.specs.Lists.{All, below, concat};
-ghost use Rattle.maps.specs.Limits.{leavesRange};
-ghost use Rattle.maps.specs.Number.{encoded, values};
+ghost use Rattle.maps.specs.Limits.{leavesRange, topRange, horizonRange, sizeRange};
+ghost use Rattle.maps.specs.Number.{encoded};
+ghost use Rattle.maps.specs.Sizes.{labelBytesMost, cutBytesMost, rowBytesMost, planMost};
 ghost use Rattle.bound.specs.Lookup.{countOf};
 ghost use Rattle.cover.specs.Cover.{Rows, rowOf};
 ghost use Rattle.writing.specs.Bytes.{Small, flatRow, flatPlan};
 ghost use Rattle.bytes.specs.Put.{Put};
-ghost use Rattle.writing.specs.Writing.{nodeRoom, cutRoom, rowRoom, rowsRoom, planRoom, Writable};
+ghost use Rattle.writing.specs.Writing.{Writable};
 use bound::Levels;
 use bound::Steps;
 use bound::label_of;
@@ -19,8 +20,8 @@ use level::Cuts;
 use level::leaf_count_in;
 use level::leaf_in;
 
-// Room for the longest plan, and more: every number in three bytes.
-pub type PlanBytes = [u8; 7683];
+// Room for the longest plan.
+pub type PlanBytes = [u8; 4611];
 
 // Writes the step, the level and the mark of v.
 fn put_node(
@@ -31,9 +32,9 @@ fn put_node(
     bytes: &mut [u8],
     at: usize,
 ) -> usize
-    requires { ⌜ (v < 256) × (getD (now steps) v 0 < values) × (getD (now levels) v 0 < values) × (getD (now used) v 0 ≤ 1) ⌝ }
-    requires { ⌜ at + nodeRoom ≤ length (now bytes) ⌝ }
-    ensures { λ r. ⌜ Put nodeRoom (now (bytes .entry)) (now (bytes .exit)) at r
+    requires { ⌜ (v < 256) × (getD (now steps) v 0 ≤ horizonRange .high) × (getD (now levels) v 0 ≤ topRange .high) × (getD (now used) v 0 ≤ 1) ⌝ }
+    requires { ⌜ at + labelBytesMost ≤ length (now bytes) ⌝ }
+    ensures { λ r. ⌜ Put labelBytesMost (now (bytes .entry)) (now (bytes .exit)) at r
         (encoded (getD (now (steps .entry)) v 0) ++ encoded (getD (now (levels .entry)) v 0) ++ encoded (getD (now (used .entry)) v 0)) ⌝ }
 {
     let label = label_of(steps, levels, v);
@@ -48,8 +49,8 @@ fn put_node(
 // Writes the row of v: the leaf count, then the leaves.
 fn put_cut(cuts: &Cuts, v: u32, bytes: &mut [u8], at: usize) -> usize
     requires { ⌜ (v < 256) × (countOf (now cuts) v ≤ leavesRange .high) × All (λ u. u < 256) (rowOf (now cuts) v) ⌝ }
-    requires { ⌜ at + cutRoom ≤ length (now bytes) ⌝ }
-    ensures { λ r. ⌜ Put cutRoom (now (bytes .entry)) (now (bytes .exit)) at r
+    requires { ⌜ at + cutBytesMost ≤ length (now bytes) ⌝ }
+    ensures { λ r. ⌜ Put cutBytesMost (now (bytes .entry)) (now (bytes .exit)) at r
         (encoded (countOf (now (cuts .entry)) v) ++ concat (map encoded (rowOf (now (cuts .entry)) v))) ⌝ }
 {
     let count = leaf_count_in(cuts, v);
@@ -74,8 +75,8 @@ fn put_row(
     at: usize,
 ) -> usize
     requires { ⌜ (v < 256) × Writable (now steps) (now levels) (now used) (now cuts) v ⌝ }
-    requires { ⌜ at + rowRoom ≤ length (now bytes) ⌝ }
-    ensures { λ r. ⌜ Put rowRoom (now (bytes .entry)) (now (bytes .exit)) at r
+    requires { ⌜ at + rowBytesMost ≤ length (now bytes) ⌝ }
+    ensures { λ r. ⌜ Put rowBytesMost (now (bytes .entry)) (now (bytes .exit)) at r
         (flatRow (now (steps .entry)) (now (levels .entry)) (now (used .entry)) (now (cuts .entry)) v) ⌝ }
 {
     let middle = put_node(steps, levels, used, v, bytes, at);
@@ -93,8 +94,8 @@ fn put_rows(
     at: usize,
 ) -> usize
     requires { ⌜ (n ≤ 256) × ((v : ℕ) → v < n → Writable (now steps) (now levels) (now used) (now cuts) v) ⌝ }
-    requires { ⌜ at + rowsRoom ≤ length (now bytes) ⌝ }
-    ensures { λ r. ⌜ Put rowsRoom (now (bytes .entry)) (now (bytes .exit)) at r
+    requires { ⌜ at + sizeRange .high * rowBytesMost ≤ length (now bytes) ⌝ }
+    ensures { λ r. ⌜ Put (sizeRange .high * rowBytesMost) (now (bytes .entry)) (now (bytes .exit)) at r
         (concat (map (flatRow (now (steps .entry)) (now (levels .entry)) (now (used .entry)) (now (cuts .entry))) (below n))) ⌝ }
 {
     let mut to = at;
@@ -118,10 +119,10 @@ pub fn write_plan(
 ) -> usize
     requires { ⌜ Small latency n (now steps) (now levels) ⌝ }
     requires { ⌜ Rows n (now used) (now cuts) ⌝ }
-    requires { ⌜ length (now bytes) ≡ planRoom ⌝ }
+    requires { ⌜ length (now bytes) ≡ planMost ⌝ }
     ensures { λ r. ⌜ (r ≡ length (flatPlan latency n (now (steps .entry)) (now (levels .entry)) (now (used .entry)) (now (cuts .entry))))
         × (take r (now (bytes .exit)) ≡ flatPlan latency n (now (steps .entry)) (now (levels .entry)) (now (used .entry)) (now (cuts .entry)))
-        × (r ≤ planRoom) ⌝ }
+        × (r ≤ planMost) ⌝ }
 {
     let after = put(bytes, 0, latency);
     put_rows(n, steps, levels, used, cuts, bytes, after)

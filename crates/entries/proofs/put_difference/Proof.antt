@@ -1,4 +1,5 @@
 -- `put_difference` meets its contract: u, v and the code of w.
+use Prim.Native.Nat.{_-_}
 use native.Mathlib.Omega.{arith}
 use borrow.Author.Needs.{needs}
 use mathlib.Core.List.{[], _∷_}
@@ -7,7 +8,8 @@ use Rattle.maps.specs.Form.{among}
 use Rattle.maps.specs.Write.{entry, codeOfWeight}
 use Rattle.ranges.proofs.RangeLaws.{ids-right}
 use Rattle.records.specs.Rows.{differenceRow, signed}
-use Rattle.fields.proofs.WroteLaws.{begun, more, stopped, last-one, wrote-wide, advances, room-left, room-less}
+use Rattle.maps.proofs.WrittenSize.{id-bytes}
+use Rattle.fields.proofs.WroteLaws.{begun, more, stopped, last-one, wrote-wide, room-left, room-less}
 use Rattle.entries.proofs.put_difference.Statement.{statement}
 use Rattle.entries.proofs.put_difference.Tie as tie
 
@@ -17,7 +19,8 @@ put-in-requires c κs =
     let up = c .before in
     let i = ids-right (s .args .n) (up .before .range-of .result) _ (s .pre .2) (up .before .range-of .ensures) (up .up-to .ensures) in
     let row = up .before .before .difference-at .ensures in
-    (omega (arith, i .1, s .pre .2), room-less 1 (omega arith) (s .pre .3))
+    let most = id-bytes {x = s .args .n - 1} (omega (arith, s .pre .2)) in
+    (omega (arith, i .1, s .pre .2), rw (i .1) (room-less (omega (arith, most)) (s .pre .3)))
 
 returns : tie.Need-returns
 returns c =
@@ -36,8 +39,9 @@ put-in-requires-2 c κs =
     let up = f1 .before .before in
     let i = ids-right (s .args .n) (up .before .range-of .result) _ (s .pre .2) (up .before .range-of .ensures) (up .up-to .ensures) in
     let row = up .before .before .difference-at .ensures in
+    let most = id-bytes {x = s .args .n - 1} (omega (arith, s .pre .2)) in
     let w1 = begun (k1 .before .from-put .given .1) (rw (i .0, i .1, row) at (f1 .put-in .ensures)) in
-    (omega (arith, i .1, s .pre .2), room-left 1 (omega arith) (advances w1) (s .pre .3))
+    (omega (arith, i .1, s .pre .2), rw (i .1) (room-left w1 (omega (arith, most)) (s .pre .3)))
 
 returns-2 : tie.Need-returns-2
 returns-2 c =
@@ -61,9 +65,10 @@ put-field-requires c κs =
     let up = f1 .before .before in
     let i = ids-right (s .args .n) (up .before .range-of .result) _ (s .pre .2) (up .before .range-of .ensures) (up .up-to .ensures) in
     let row = up .before .before .difference-at .ensures in
+    let most = id-bytes {x = s .args .n - 1} (omega (arith, s .pre .2)) in
     let w1 = begun (k1 .before .from-put .given .1) (rw (i .0, i .1, row) at (f1 .put-in .ensures)) in
     let w2 = more w1 (k2 .before .to-put .given .1) (rw (i .0, i .1, row) at (f2 .put-in2 .ensures)) in
-    room-left 1 (omega arith) (advances w2) (s .pre .3)
+    room-left w2 (omega (arith, most)) (s .pre .3)
 
 returns-3 : tie.Need-returns-3
 returns-3 c =

@@ -7,7 +7,8 @@ use Rattle.maps.specs.Form.{among}
 use Rattle.maps.specs.Write.{entry}
 use Rattle.ranges.proofs.RangeLaws.{delays-right, latencies-right, operands-right}
 use Rattle.maps.proofs.Spellable.{ranges-fit}
-use Rattle.fields.proofs.WroteLaws.{begun, more, stopped, last-one, wrote-wide, advances, room-left, room-less}
+use Rattle.maps.proofs.WrittenSize.{ranges-bytes}
+use Rattle.fields.proofs.WroteLaws.{begun, more, stopped, last-one, wrote-wide, room-left}
 use Rattle.entries.proofs.put_head.Statement.{statement}
 use Rattle.entries.proofs.put_head.Tie as tie
 
@@ -23,7 +24,7 @@ put-field-requires-2 c κs =
     let f1 = k1 .before .before .before .before .before in
     let s = f1 .before .before .before .before .before .before in
     let w1 = begun (k1 .before .kind-put .given .1) (f1 .put-field .ensures) in
-    room-left 1 (omega arith) (advances w1) (s .pre .1)
+    room-left w1 (omega arith) (s .pre .1)
 
 returns-2 : tie.Need-returns-2
 returns-2 c =
@@ -44,9 +45,10 @@ put-in-requires c κs =
     let all = c .before .before .before .ranges-of in
     let d = delays-right (s .args .top) (s .args .row .kind) (all .result) (s .pre .0) (all .ensures) _ (c .up-to .ensures) in
     let small = ranges-fit (s .args .top) (s .args .row .kind) (s .pre .0) in
+    let most = ranges-bytes (s .args .top) (s .args .row .kind) (s .pre .0) in
     let w1 = begun (k1 .before .kind-put .given .1) (f1 .put-field .ensures) in
     let w2 = more w1 (k2 .before .mark-put .given .1) (f2 .put-field2 .ensures) in
-    (omega (arith, d .1, small .0), room-left 1 (omega arith) (advances w2) (s .pre .1))
+    (omega (arith, d .1, small .0), rw (d .1) (room-left w2 (omega (arith, most)) (s .pre .1)))
 
 returns-3 : tie.Need-returns-3
 returns-3 c =
@@ -78,10 +80,11 @@ put-in-requires-2 c κs =
     let d = delays-right (s .args .top) (s .args .row .kind) (all .result) (s .pre .0) (all .ensures) _ (f3 .before .up-to .ensures) in
     let l = latencies-right (s .args .top) (s .args .row .kind) (all .result) (s .pre .0) (all .ensures) in
     let small = ranges-fit (s .args .top) (s .args .row .kind) (s .pre .0) in
+    let most = ranges-bytes (s .args .top) (s .args .row .kind) (s .pre .0) in
     let w1 = begun (k1 .before .kind-put .given .1) (f1 .put-field .ensures) in
     let w2 = more w1 (k2 .before .mark-put .given .1) (f2 .put-field2 .ensures) in
     let w3 = more w2 (k3 .before .delay-put .given .1) (rw (d .0, d .1) at (f3 .put-in .ensures)) in
-    (omega (arith, l .1, small .1), room-left 1 (omega arith) (advances w3) (s .pre .1))
+    (omega (arith, l .1, small .1), rw (l .1) (room-left w3 (omega (arith, most)) (s .pre .1)))
 
 returns-4 : tie.Need-returns-4
 returns-4 c =
@@ -120,11 +123,12 @@ put-in-requires-3 c κs =
     let l = latencies-right (s .args .top) (s .args .row .kind) (all .result) (s .pre .0) (all .ensures) in
     let o = operands-right (s .args .top) (s .args .row .kind) (all .result) (s .pre .0) (all .ensures) in
     let small = ranges-fit (s .args .top) (s .args .row .kind) (s .pre .0) in
+    let most = ranges-bytes (s .args .top) (s .args .row .kind) (s .pre .0) in
     let w1 = begun (k1 .before .kind-put .given .1) (f1 .put-field .ensures) in
     let w2 = more w1 (k2 .before .mark-put .given .1) (f2 .put-field2 .ensures) in
     let w3 = more w2 (k3 .before .delay-put .given .1) (rw (d .0, d .1) at (f3 .put-in .ensures)) in
     let w4 = more w3 (k4 .before .latency-put .given .1) (rw (l .0, l .1) at (f4 .put-in2 .ensures)) in
-    (omega (arith, o .1, small .2), room-left 1 (omega arith) (advances w4) (s .pre .1))
+    (omega (arith, o .1, small .2), rw (o .1) (room-left w4 (omega (arith, most)) (s .pre .1)))
 
 returns-5 : tie.Need-returns-5
 returns-5 c =

@@ -3,9 +3,10 @@ use native.Mathlib.Omega.{arith}
 use borrow.Author.Needs.{needs}
 use mathlib.Core.List.{[], _∷_}
 use Rattle.maps.specs.Limits.{topRange, horizonRange, sizeRange, countRange}
+use Rattle.maps.specs.Number.{bytesFor}
 use Rattle.maps.specs.Form.{among}
 use Rattle.maps.specs.Write.{entry}
-use Rattle.fields.proofs.WroteLaws.{begun, more, stopped, last-one, wrote-wide, advances, room-left, room-less}
+use Rattle.fields.proofs.WroteLaws.{begun, more, stopped, last-one, wrote-wide, numbered, room-left}
 use Rattle.entries.proofs.put_header.Statement.{statement}
 use Rattle.entries.proofs.put_header.Tie as tie
 
@@ -21,7 +22,7 @@ put-field-requires-2 c κs =
     let f1 = k1 .before .before .before .before .before in
     let s = f1 .before .before .before in
     let w1 = begun (k1 .before .leaves-put .given .1) (f1 .put-field .ensures) in
-    room-left 1 (omega arith) (advances w1) (s .pre)
+    room-left w1 (omega arith) (s .pre)
 
 returns-2 : tie.Need-returns-2
 returns-2 c =
@@ -41,7 +42,7 @@ put-field-requires-3 c κs =
     let s = f1 .before .before .before in
     let w1 = begun (k1 .before .leaves-put .given .1) (f1 .put-field .ensures) in
     let w2 = more w1 (k2 .before .top-put .given .1) (f2 .put-field2 .ensures) in
-    room-left 1 (omega arith) (advances w2) (s .pre)
+    room-left w2 (omega arith) (s .pre)
 
 returns-3 : tie.Need-returns-3
 returns-3 c =
@@ -70,7 +71,7 @@ put-field-requires-4 c κs =
     let w1 = begun (k1 .before .leaves-put .given .1) (f1 .put-field .ensures) in
     let w2 = more w1 (k2 .before .top-put .given .1) (f2 .put-field2 .ensures) in
     let w3 = more w2 (k3 .before .horizon-put .given .1) (f3 .put-field3 .ensures) in
-    room-left 1 (omega arith) (advances w3) (s .pre)
+    room-left w3 (omega arith) (s .pre)
 
 returns-4 : tie.Need-returns-4
 returns-4 c =
@@ -105,8 +106,8 @@ put-field-requires-5 c κs =
     let w2 = more w1 (k2 .before .top-put .given .1) (f2 .put-field2 .ensures) in
     let w3 = more w2 (k3 .before .horizon-put .given .1) (f3 .put-field3 .ensures) in
     let w4 = more w3 (k4 .before .nodes-put .given .1) (f4 .put-field4 .ensures) in
-    let r = room-left 1 (omega arith) (advances w4) (s .pre) in
-    record { space = omega (arith, r .space); numbers = omega (arith, r .numbers) }
+    let r = room-left {k = bytesFor (countRange .high)} w4 (omega arith) (s .pre) in
+    record { space = omega (arith, r .space); counted = omega (arith, r .counted, numbered w4) }
 
 returns-5 : tie.Need-returns-5
 returns-5 c =

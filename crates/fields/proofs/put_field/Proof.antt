@@ -1,12 +1,5 @@
 -- `put_field` meets its contract.
-use mathlib.Core.Path.{_≡_, subst}
-use mathlib.Core.List.{[], _∷_}
 use borrow.Author.Needs.{needs}
-use Rattle.maps.specs.Form.{among}
-use Rattle.maps.specs.Write.{entry}
-use Rattle.ranges.specs.Ranges.{spanMeant}
-use Rattle.ranges.specs.declared.Span.{Span}
-use Rattle.fields.specs.Wrote.{Wrote}
 use Rattle.fields.proofs.Spelled.{field-small}
 use Rattle.fields.proofs.put_field.Statement.{statement}
 use Rattle.fields.proofs.put_field.Tie as tie
@@ -14,7 +7,7 @@ use Rattle.fields.proofs.put_field.Tie as tie
 put-in-requires : tie.Need-put-in-requires
 put-in-requires c κs =
     let s = c .before .before .before in
-    (field-small (s .args .field) (c .before .range-of .ensures), s .pre)
+    (field-small (s .args .field) (c .before .range-of .ensures), rw (c .before .range-of .ensures) (s .pre))
 
 returns : tie.Need-returns
 returns c =

@@ -1,27 +1,65 @@
 -- `writing::put_node` meets its contract.
 use mathlib.Core.Path.{ap}
 use native.Mathlib.Omega.{arith}
-use Prim.Native.Nat.{_+_}
+use Prim.Native.Nat.{ℕ, _+_, _≤_}
 use Rattle.maps.specs.Label.{Label}
-use Rattle.maps.specs.Number.{width}
+use Rattle.maps.specs.Number.{bytesFor}
+use Rattle.maps.specs.Limits.{topRange, horizonRange, markRange}
+use Rattle.maps.specs.Sizes.{stepBytesMost, labelBytesMost}
+use Rattle.maps.proofs.WrittenSize.{within-bytes}
 use Rattle.bytes.proofs.Putting.{put-then}
 use borrow.Author.Needs.{needs}
-use Rattle.writing.specs.Writing.{nodeRoom}
+use Rattle.writing.proofs.Putting.{put-most}
 use Rattle.writing.proofs.put_node.Statement.{statement}
 use Rattle.writing.proofs.put_node.Tie as tie
+
+-- the bytes that each of the three takes at most
+step-bytes : {x : ℕ} → x ≤ horizonRange .high → bytesFor x ≤ bytesFor (horizonRange .high)
+step-bytes = within-bytes
+
+level-bytes : {x : ℕ} → x ≤ topRange .high → bytesFor x ≤ bytesFor (topRange .high)
+level-bytes = within-bytes
+
+mark-bytes : {x : ℕ} → x ≤ 1 → bytesFor x ≤ bytesFor (markRange .high)
+mark-bytes = within-bytes
 
 put-requires : tie.Need-put-requires
 put-requires c κs =
     let l = c .before .before .before .before in
     let s = l .before .before in
-    (omega (arith, ap (λ (a : Label). a .step) (l .label-of .ensures), s .pre .0 .1), omega (arith, s .pre .1))
+    let step = rw (← ap (λ (a : Label). a .step) (l .label-of .ensures)) at (s .pre .0 .1) in
+    (omega (arith, step), omega (arith, s .pre .1, step-bytes step))
 
 put-requires-2 : tie.Need-put-requires-2
 put-requires-2 c κs =
     let f = c .before .before .before in
     let l = f .before .before .before .before .before in
     let s = l .before .before in
-    (omega (arith, ap (λ (a : Label). a .level) (l .label-of .ensures), s .pre .0 .2), omega (arith, f .put .ensures .near, f .put .ensures .wide, s .pre .1))
+    let step = rw (← ap (λ (a : Label). a .step) (l .label-of .ensures)) at (s .pre .0 .1) in
+    let level = rw (← ap (λ (a : Label). a .level) (l .label-of .ensures)) at (s .pre .0 .2) in
+    (omega (arith, level), omega (arith, f .put .ensures .near, f .put .ensures .wide, s .pre .1, step-bytes step, level-bytes level))
+
+put-requires-3 : tie.Need-put-requires-3
+put-requires-3 c κs =
+    let g = c .before .before .before in
+    let f = g .before .before .before .before in
+    let l = f .before .before .before .before .before in
+    let s = l .before .before in
+    let step = rw (← ap (λ (a : Label). a .step) (l .label-of .ensures)) at (s .pre .0 .1) in
+    let level = rw (← ap (λ (a : Label). a .level) (l .label-of .ensures)) at (s .pre .0 .2) in (
+      omega (arith, s .pre .0 .3),
+      omega (
+        arith,
+        f .put .ensures .near,
+        f .put .ensures .wide,
+        g .put2 .ensures .near,
+        g .put2 .ensures .wide,
+        s .pre .1,
+        step-bytes step,
+        level-bytes level,
+        mark-bytes (s .pre .0 .3),
+      ),
+    )
 
 returns : tie.Need-returns
 returns c =
@@ -29,9 +67,10 @@ returns c =
     let second = third .before .before .before .before in
     let first = second .before .before .before .before in
     let l = first .before .before .before .before .before in
+    let p = l .before .before .pre .0 in
     let s = rw (ap (λ (a : Label). a .step) (l .label-of .ensures)) at (first .put .ensures) in
     let t = rw (ap (λ (a : Label). a .level) (l .label-of .ensures)) at (second .put2 .ensures) in
-    put-then nodeRoom (omega arith) (put-then (width + width) (omega arith) s t) (third .put3 .ensures)
+    put-then labelBytesMost (omega arith) (put-then (stepBytesMost + bytesFor (topRange .high)) (omega arith) (put-most (p .1) s) (put-most (p .2) t)) (put-most (p .3) (third .put3 .ensures))
 
 pub put-node-spec : {M : Type 1} → statement M
 put-node-spec =
@@ -42,6 +81,6 @@ put-node-spec =
     put-requires
     put-requires-2
     (λ c. search needs)
-    (λ c κs. search needs)
+    put-requires-3
     (λ c. search needs)
     returns)

@@ -1,33 +1,36 @@
 -- `writing::put_rows` meets its contract. The loop's invariant: the rows below v are written.
 use borrow.Author.Needs.{needs}
 use native.Mathlib.Omega.{arith}
-use Prim.Native.Nat.{_-_, _*_, _≤_}
+use native.Mathlib.Nat.{suc-mul, mul-le-mul-right}
+use Prim.Native.Nat.{suc, _-_, _*_, _≤_}
 use mathlib.Core.List.{map}
 use Rattle.maps.specs.Lists.{below, concat}
 use Rattle.writing.specs.Bytes.{flatRow}
-use Rattle.writing.specs.Writing.{rowRoom}
+use Rattle.maps.specs.Limits.{sizeRange}
+use Rattle.maps.specs.Sizes.{rowBytesMost}
 use Rattle.bytes.specs.Put.{Put}
-use Rattle.bytes.proofs.Putting.{put-none}
+use Rattle.bytes.proofs.Putting.{put-none, put-within}
 use Rattle.writing.proofs.Putting.{put-next, put-all}
 use Rattle.writing.proofs.put_rows.Statement.{statement}
 use Rattle.writing.proofs.put_rows.Tie as tie
 
 abbrev Inv-loop : tie.InvT-loop
 Inv-loop n steps levels used cuts bytes₀ at to₀ v₀ bytes to v =
-    (v ≤ n) × Put (v * rowRoom) bytes₀ bytes at to (concat (map (flatRow steps levels used cuts) (below v)))
+    (v ≤ n) × Put (v * rowBytesMost) bytes₀ bytes at to (concat (map (flatRow steps levels used cuts) (below v)))
 
 abbrev μ-loop : tie.MeasureT-loop
 μ-loop n steps levels used cuts bytes₀ at to₀ v₀ bytes to v = n - v
 
 loop-holds : tie.Need-loop-holds Inv-loop μ-loop
-loop-holds c = (omega arith, put-none _ _)
+loop-holds c = (omega arith, put-within _ (omega arith) (put-none _ _))
 
 put-row-requires : tie.Need-put-row-requires Inv-loop μ-loop
 put-row-requires c κs =
     let s = c .before .before .before .before in
     let l = c .before .before .loop in
     let t = c .before .loop-test .taken in
-    ((omega arith, s .pre .0 .1 (l .v) t), omega (arith, l .inv .1 .near, l .inv .1 .wide, s .pre .1))
+    let m = mul-le-mul-right {m = suc (l .v)} {n = sizeRange .high} rowBytesMost (omega (arith, s .pre .0 .0)) in
+    ((omega arith, s .pre .0 .1 (l .v) t), omega (arith, m, suc-mul (l .v) rowBytesMost, l .inv .1 .near, l .inv .1 .wide, s .pre .1))
 
 loop-again : tie.Need-loop-again Inv-loop μ-loop
 loop-again c =

@@ -3,6 +3,7 @@ use mathlib.Core.Path.{refl}
 use native.Mathlib.Omega.{arith}
 use lib.ListN.{length}
 use borrow.Author.Needs.{needs}
+use Rattle.maps.proofs.WrittenSize.{plan-most}
 use Rattle.planner.proofs.call.plan.Statement.{statement}
 use Rattle.planner.proofs.call.plan.Tie as tie
 
@@ -11,7 +12,7 @@ hand-over-requires c κs =
     let d = c .before .before .before .before in
     let l = rw (d .draft2 .given .1) at (d .before .before .make-plan .ensures .1) in
     let e = c .before .hand-over-arg .given .0 in
-    omega arith
+    omega (arith, plan-most)
 
 returns : tie.Need-returns
 returns c =
@@ -30,7 +31,7 @@ pub plan-spec : {M : Type 1} → statement M
 plan-spec =
     tie.close
     (tie.spec
-    (λ c κs. search needs)
+    (λ c κs. search (needs, plan-most))
     (λ c. search needs)
     (λ c. search needs)
     hand-over-requires

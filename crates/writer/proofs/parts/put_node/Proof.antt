@@ -8,9 +8,8 @@ use lib.ListN.{take, drop}
 use borrow.Author.Needs.{needs}
 use Rattle.maps.specs.Form.{under}
 use Rattle.maps.specs.Write.{entry}
-use Rattle.fields.specs.Wrote.{headMost}
-use Rattle.fields.proofs.WroteLaws.{begun, stopped, last-one, wrote-wide, advances, room-left, room-less}
-use Rattle.writer.proofs.NodeRows.{head-few, within-array, node-numbers}
+use Rattle.fields.proofs.WroteLaws.{begun, stopped, last-one, wrote-wide, room-left, room-less}
+use Rattle.writer.proofs.NodeRows.{head-room, within-array, node-numbers}
 use Rattle.writer.proofs.parts.put_node.Statement.{statement}
 use Rattle.writer.proofs.parts.put_node.Tie as tie
 
@@ -21,7 +20,7 @@ counts c = ⊎-elim (λ w. omega (arith, w .0 .taken, w .1)) (λ w. omega (arith
 put-head-requires : tie.Need-put-head-requires
 put-head-requires c κs =
     let s = c .before .before .before .before .before .before .before in
-    (s .pre .1 .0, room-less headMost (omega arith) (s .pre .1 .1))
+    (s .pre .1 .0, room-less (omega arith) (s .pre .1 .1))
 
 returns : tie.Need-returns
 returns c =
@@ -48,7 +47,7 @@ put-operands-requires c κs =
     let w = begun (k .before .head .given .1) (h .put-head .ensures) in (
       within-array (s .args .nodes .now) (s .args .operands .now) (s .args .v) (s .args .first) (e .end-of .result) (j .if1 .count) (s .pre .0 .2) (e .end-of .ensures) (counts j),
       omega (arith, s .pre .0 .1),
-      room-left (j .if1 .count) (omega (arith, head-few (s .args .top) (j .if1 .count) (n .node-at .result) w)) (advances w) (s .pre .1 .1),
+      room-left w (omega (arith, head-room (s .args .top) (j .if1 .count) (n .node-at .result) (s .pre .1 .0) w)) (s .pre .1 .1),
     )
 
 returns-2 : tie.Need-returns-2

@@ -10,7 +10,7 @@ use Rattle.maps.specs.Write.{Entry, entry}
 use Rattle.maps.proofs.Numbers.{slice-below}
 use Rattle.fields.specs.Wrote.{Wrote}
 use Rattle.fields.specs.declared.Progress.the-variants.{Next}
-use Rattle.fields.proofs.WroteLaws.{Advances, begun, advances, advances-none, advances-then, room-left, wrote-none, wrote-wide, rows-next, rows-stop, rows-all}
+use Rattle.fields.proofs.WroteLaws.{rows-room, wrote-none, wrote-wide, rows-next, rows-stop, rows-all}
 use Rattle.writer.proofs.parts.put_operands.Statement.{statement}
 use Rattle.writer.proofs.parts.put_operands.Tie as tie
 
@@ -19,20 +19,20 @@ id operands own first j = entry (under own) (getD operands (first + j) 0) ∷ []
 
 abbrev Inv-loop : tie.InvT-loop
 Inv-loop operands first count own bytes₀ to₀ i₀ bytes to i =
-    (i ≤ count) × Advances i bytes₀ bytes to₀ to × Wrote (concat (map (id operands own first) (below i))) bytes₀ bytes to₀ (Next to)
+    (i ≤ count) × Wrote (concat (map (id operands own first) (below i))) bytes₀ bytes to₀ (Next to)
 
 abbrev μ-loop : tie.MeasureT-loop
 μ-loop operands first count own bytes₀ to₀ i₀ bytes to i = count - i
 
 loop-holds : tie.Need-loop-holds Inv-loop μ-loop
-loop-holds c = (omega arith, advances-none _ _, wrote-none _ _)
+loop-holds c = (omega arith, wrote-none _ _)
 
 put-operand-requires : tie.Need-put-operand-requires Inv-loop μ-loop
 put-operand-requires c κs =
     let t = c .before .before in
     let l = t .before .loop in
     let s = t .before .before .before .before in
-    (s .pre .1, room-left 1 (omega (arith, t .loop-test .taken)) (l .inv .1) (s .pre .2))
+    (s .pre .1, rows-room (id (s .args .operands .now) (s .args .own) (s .args .first)) (λ j p. omega arith) (l .i) (s .args .count) (omega (arith, t .loop-test .taken)) (l .inv .1) (s .pre .2))
 
 returns : tie.Need-returns Inv-loop μ-loop
 returns c =
@@ -41,7 +41,7 @@ returns c =
     let l = t .before .loop in
     let s = t .before .before .before .before in
     rw (slice-below (entry (under (s .args .own))) (s .args .operands .now) (s .args .first) (s .args .count) (s .pre .0))
-    (rows-stop (id (s .args .operands .now) (s .args .own) (s .args .first)) (l .i) (s .args .count) (omega (arith, t .loop-test .taken)) (c .enum-told .given .1) (l .inv .2) (f .put-operand .ensures))
+    (rows-stop (id (s .args .operands .now) (s .args .own) (s .args .first)) (l .i) (s .args .count) (omega (arith, t .loop-test .taken)) (c .enum-told .given .1) (l .inv .1) (f .put-operand .ensures))
 
 same-length : tie.Need-same-length Inv-loop μ-loop
 same-length c = wrote-wide (returns c)
@@ -54,8 +54,7 @@ loop-again c =
     let s = t .before .before .before .before in
     let e = c .before .part .given .1 in (
       omega (arith, t .loop-test .taken),
-      advances-then (l .i + 1) (omega arith) (l .inv .1) (advances (begun e (f .put-operand .ensures))),
-      rows-next (id (s .args .operands .now) (s .args .own) (s .args .first)) (l .i) e (l .inv .2) (f .put-operand .ensures),
+      rows-next (id (s .args .operands .now) (s .args .own) (s .args .first)) (l .i) e (l .inv .1) (f .put-operand .ensures),
     )
 
 returns-2 : tie.Need-returns-2 Inv-loop μ-loop
@@ -63,7 +62,7 @@ returns-2 c =
     let l = c .before .loop in
     let s = c .before .before .before .before in
     rw (slice-below (entry (under (s .args .own))) (s .args .operands .now) (s .args .first) (s .args .count) (s .pre .0))
-    (rows-all (id (s .args .operands .now) (s .args .own) (s .args .first)) (l .i) (s .args .count) (l .inv .0) (omega (arith, c .loop-test .left)) (l .inv .2))
+    (rows-all (id (s .args .operands .now) (s .args .own) (s .args .first)) (l .i) (s .args .count) (l .inv .0) (omega (arith, c .loop-test .left)) (l .inv .1))
 
 same-length-2 : tie.Need-same-length-2 Inv-loop μ-loop
 same-length-2 c = wrote-wide (returns-2 c)

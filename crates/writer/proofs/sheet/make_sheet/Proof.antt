@@ -4,15 +4,16 @@ use native.Mathlib.Omega.{arith}
 use mathlib.Core.List.{_++_, map}
 use borrow.Author.Needs.{needs}
 use Rattle.maps.specs.Lists.{below, concat}
+use Rattle.maps.specs.Sizes.{nodeBytesMost, differenceBytesMost}
 use Rattle.records.specs.Rows.{nodeEntries, differenceEntries}
-use Rattle.fields.specs.Wrote.{headerMost, nodeMost, differenceMost}
-use Rattle.fields.proofs.WroteLaws.{begun, stopped, last-one, advances, advances-then, room-left, room-less}
-use Rattle.writer.proofs.Sheets.{limited, room-whole, nodes-advance, numbers-in}
+use Rattle.fields.proofs.WroteLaws.{begun, stopped, last-one, room-left, room-less, rows-most}
+use Rattle.writer.proofs.NodeRows.{node-bytes}
+use Rattle.writer.proofs.Sheets.{limited, parts-most, room-whole, numbers-in}
 use Rattle.writer.proofs.sheet.make_sheet.Statement.{statement}
 use Rattle.writer.proofs.sheet.make_sheet.Tie as tie
 
 put-header-requires : tie.Need-put-header-requires
-put-header-requires c κs = room-less headerMost (omega arith) (room-whole (c .before .before .before .before .before .before .pre))
+put-header-requires c κs = room-less (omega arith) (room-whole (c .before .before .before .before .before .before .pre))
 
 returns : tie.Need-returns
 returns c =
@@ -36,7 +37,7 @@ put-nodes-requires c κs =
     let a = s .args in
     let w1 = begun (k1 .before .header .given .1) (h .put-header .ensures) in
     let l = limited (a .leaves) (a .top) (a .horizon) (n .node-count .result) (m .difference-count .result) w1 in
-    (omega (arith, n .node-count .ensures), l .nodes, l .top, room-left (n .node-count .result * nodeMost) (omega (arith, l .nodes)) (advances w1) (room-whole (s .pre)))
+    (omega (arith, n .node-count .ensures), l .nodes, l .top, room-left w1 (omega (arith, parts-most l)) (room-whole (s .pre)))
 
 returns-2 : tie.Need-returns-2
 returns-2 c =
@@ -74,8 +75,9 @@ put-differences-requires c κs =
     let w1 = begun (k1 .before .header .given .1) (h .put-header .ensures) in
     let w2 = begun (k2 .before .body .given .1) (v .put-nodes .ensures) in
     let l = limited (a .leaves) (a .top) (a .horizon) (n .node-count .result) (m .difference-count .result) w1 in
-    let far = advances-then (headerMost + n .node-count .result * nodeMost) (omega arith) (advances w1) (nodes-advance (a .top) (a .nodes .now) (a .operands .now) (n .node-count .result) w2) in
-    (omega (arith, m .difference-count .ensures), l .some, l .nodes, room-left (m .difference-count .result * differenceMost) (omega (arith, l .nodes, l .differences)) far (room-whole (s .pre)))
+    let nodes = rows-most (nodeEntries (a .top) (a .nodes .now) (a .operands .now)) (node-bytes (a .top) (a .nodes .now) (a .operands .now) (l .top)) (n .node-count .result) w2 in
+    let room = room-left {k = n .node-count .result * nodeBytesMost + m .difference-count .result * differenceBytesMost} w1 (omega (arith, parts-most l)) (room-whole (s .pre)) in
+    (omega (arith, m .difference-count .ensures), l .some, l .nodes, room-left w2 (omega (arith, nodes)) room)
 
 returns-3 : tie.Need-returns-3
 returns-3 c =

@@ -4,6 +4,7 @@ use mathlib.Core.Path.{refl}
 use lib.ListN.{length}
 use borrow.Author.Needs.{needs}
 use Rattle.records.specs.Rows.{recordsIn}
+use Rattle.maps.proofs.WrittenSize.{sheet-most}
 use Rattle.writer.proofs.Sheets.{made, made-within, not-made}
 use Rattle.writer.proofs.sheet.write.Statement.{statement}
 use Rattle.writer.proofs.sheet.write.Tie as tie
@@ -35,7 +36,7 @@ pub write-spec : {M : Type 1} → statement M
 write-spec =
     tie.close
     (tie.spec
-    (λ c κs. search needs)
+    (λ c κs. search (needs, sheet-most))
     (λ c. search needs)
     (λ c. search needs)
     hand-over-requires
