@@ -1,4 +1,4 @@
-// The cases of document 01 and those of longer numbers, each planned and printed.
+// The cases of documents 01 and 02, each planned and printed.
 fn main() {
     // the hall sheet
     report::report(
