@@ -1,13 +1,13 @@
 -- Document 02, U1, of one call of the sheet writer: the records, the buffer as it was lent and as it is after the call, and the number and place
 -- that are answered.
-use Prim.Native.Nat.{ℕ, _^_, _≤_, _<_}
+use Prim.Native.Nat.{ℕ, _≤_, _<_}
 use mathlib.Core.Path.{_≡_}
 use mathlib.Core.List.{List, _++_}
 use mathlib.Core.Logic.{_⊎_}
 use lib.ListN.{length, take, drop}
 use Rattle.maps.specs.Lists.{All}
 use Rattle.maps.specs.Sheet.{Sheet}
-use Rattle.maps.specs.Number.{width, encoded}
+use Rattle.maps.specs.Number.{values, encoded}
 use Rattle.maps.specs.Reading.{ReadsAs, Refuses}
 use Rattle.maps.specs.Records.{Records, sheetMeant, recordsOf}
 use Rattle.maps.specs.Write.{Passes, First, numbers, valuesOf, spelled, spelling}
@@ -31,7 +31,7 @@ module _ (R : Records) (buffer : List ℕ) (number place : ℕ) (after : List �
     -- makes of it, and those before it pass
     pub first : (k i : ℕ) → First (numbers R) k i → Refused k i
     -- where it has a spelling, the reader refuses every sheet that begins with these numbers, by that ground, at that number
-    pub reader : (k i : ℕ) (f : First (numbers R) k i) → f .faulty .value < 128 ^ width → (rest : List ℕ)
+    pub reader : (k i : ℕ) (f : First (numbers R) k i) → f .faulty .value < values → (rest : List ℕ)
         → Refuses (spelled (valuesOf (f .before)) ++ (encoded (f .faulty .value) ++ rest)) k (length (spelled (valuesOf (f .before))))
     -- "then 8"
     pub short : All Passes (numbers R) → length buffer < length (spelling (sheetMeant R)) → Refused 8 (length (spelling (sheetMeant R)))

@@ -1,5 +1,5 @@
 -- Numbers that lead through a form are read where they are spelled, and whatever is read is numbers spelled that lead through the form.
-use Prim.Native.Nat.{ℕ, _+_, _-_, _^_, _<_}
+use Prim.Native.Nat.{ℕ, _+_, _-_, _<_}
 use mathlib.Core.Path.{_≡_, refl, sym, subst, ap, _∙_}
 use mathlib.Core.Bool.{Bool, true, false, cond}
 use mathlib.Core.List.{List, [], _∷_, _++_, append-assoc}
@@ -8,7 +8,7 @@ use native.Mathlib.Nat.{add-zero}
 use lib.ListN.{length, drop, take, length-append, length-drop, take-append-drop}
 use lib.Seq.{drop-drop, drop-append-seam, length-take-le}
 use Rattle.maps.specs.Lists.{All}
-use Rattle.maps.specs.Number.{Bytes, Got, got, refusal, andThen, number, width, encoded}
+use Rattle.maps.specs.Number.{Bytes, Got, got, refusal, andThen, number, width, values, encoded}
 use Rattle.maps.specs.Form.{Rule, ground, passes, Form, done, ask, read, Leads}
 use Rattle.maps.specs.Write.{spelled}
 use Rattle.maps.proofs.Spelling.{read-at, written-read, number-next, number-bound}
@@ -18,7 +18,7 @@ pub after-here : (s : List ℕ) (at : ℕ) (xs rest : List ℕ) → drop at s �
 after-here s at xs rest e = sym (drop-drop (length xs) at s) ∙ ap (drop (length xs)) e ∙ drop-append-seam xs rest
 
 -- numbers that lead from f to g and have a spelling are read, and reading goes on with g
-pub leads-read : {A : Type 0} (f g : Form A) (ns : List ℕ) → All (λ n. n < 128 ^ width) ns → Leads f ns g → (s : List ℕ) (at : ℕ) (rest : List ℕ)
+pub leads-read : {A : Type 0} (f g : Form A) (ns : List ℕ) → All (λ n. n < values) ns → Leads f ns g → (s : List ℕ) (at : ℕ) (rest : List ℕ)
     → drop at s ≡ spelled ns ++ rest → (read f s at ≡ read g s (at + length (spelled ns))) × (drop (at + length (spelled ns)) s ≡ rest)
 leads-read f g [] m l s at rest e = rw (add-zero at) (ap (λ h. read h s at) l, e)
 leads-read (done a) g (n ∷ ns) m l s at rest e = absurd l
@@ -30,7 +30,7 @@ leads-read (ask r f) g (n ∷ ns) m l s at rest e =
 
 -- a number that was read stands in its spelling
 here-spelled : (s : List ℕ) → Bytes s → (at n next : ℕ) → number s at ≡ got n next
-    → (drop at s ≡ encoded n ++ drop next s) × (next ≡ at + length (encoded n)) × (n < 128 ^ width)
+    → (drop at s ≡ encoded n ++ drop next s) × (next ≡ at + length (encoded n)) × (n < values)
 here-spelled s b at n next e =
     let t : take (next - at) (drop at s) ≡ encoded n = written-read (width - 1) s b at n next e in
     let l = number-next (width - 1) s at n next e in
@@ -47,7 +47,7 @@ pub data Ends {A : Type 0} (f : Form A) (s : List ℕ) (at : ℕ) : Got A → Ty
   stop : {k p : ℕ} (ns : List ℕ) (r : Rule) (g : ℕ → Form A) (rest : List ℕ) → Leads f ns (ask r g) → drop at s ≡ spelled ns ++ rest
       → number s (at + length (spelled ns)) ≡ refusal k p → Ends f s at (refusal k p)
   wrong : (ns : List ℕ) (r : Rule) (g : ℕ → Form A) (x : ℕ) (rest : List ℕ) → Leads f ns (ask r g) → drop at s ≡ spelled ns ++ (encoded x ++ rest)
-      → x < 128 ^ width → passes r x ≡ false → Ends f s at (refusal (ground r) (at + length (spelled ns)))
+      → x < values → passes r x ≡ false → Ends f s at (refusal (ground r) (at + length (spelled ns)))
 
 -- one number before
 ends-more : {A : Type 0} (r : Rule) (f : ℕ → Form A) (s : List ℕ) (at n next : ℕ) → passes r n ≡ true

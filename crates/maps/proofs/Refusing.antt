@@ -1,5 +1,5 @@
 -- The reader refuses by ground k at p exactly if the bytes are so: grounds 1 to 5.
-use Prim.Native.Nat.{ℕ, zero, suc, _+_, _-_, _^_, _≤_, _<_}
+use Prim.Native.Nat.{ℕ, zero, suc, _+_, _-_, _≤_, _<_}
 use mathlib.Core.Path.{_≡_, refl, subst, ap, _∙_}
 use mathlib.Core.Bool.{Bool, true, false, cond}
 use mathlib.Core.List.{List, [], _∷_, _++_}
@@ -9,7 +9,7 @@ use lib.Dec.{ltb, eqb}
 use lib.ListN.{length, drop, length-drop, length-append}
 use borrow.Author.Tests.{ltb-true, ltb-false, lt-ltb, le-ltb, eqb-true}
 use Rattle.maps.specs.Sheet.{Sheet}
-use Rattle.maps.specs.Number.{Bytes, Got, got, refusal, above, groups, numberUpTo, number, width, encoded}
+use Rattle.maps.specs.Number.{Bytes, Got, got, refusal, above, groups, numberUpTo, number, width, values, encoded}
 use Rattle.maps.specs.Form.{among, under, Rule, ground, Form, done, ask, read, Leads}
 use Rattle.maps.specs.Read.{sheetForm, sheet, refused, whole, parse}
 use Rattle.maps.specs.Records.{Records, sheetMeant}
@@ -181,7 +181,7 @@ refuses-number (value ns r g x rest l d w f) = go r
 refuses-number (trailing ns S b rest l d) = (omega arith, omega arith)
 
 -- where the writer refuses number i, the reader refuses the sheet that has the numbers before it and then that number, at that number's byte
-pub first-refuses : (R : Records) (k i : ℕ) (f : First (numbers R) k i) → f .faulty .value < 128 ^ width → (rest : List ℕ)
+pub first-refuses : (R : Records) (k i : ℕ) (f : First (numbers R) k i) → f .faulty .value < values → (rest : List ℕ)
     → Refuses (spelled (valuesOf (f .before)) ++ (encoded (f .faulty .value) ++ rest)) k (length (spelled (valuesOf (f .before))))
 first-refuses R k i f l rest =
     let ns = valuesOf (f .before) in

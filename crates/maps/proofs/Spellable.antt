@@ -1,5 +1,5 @@
 -- Every number that the sheet's form lets pass has a spelling.
-use Prim.Native.Nat.{ℕ, zero, suc, _+_, _^_, _≤_, _<_}
+use Prim.Native.Nat.{ℕ, zero, suc, _+_, _≤_, _<_}
 use mathlib.Core.Path.{_≡_}
 use mathlib.Core.Bool.{true}
 use mathlib.Core.List.{List, [], _∷_}
@@ -7,7 +7,7 @@ use native.Mathlib.Omega.{arith}
 use borrow.Author.Tests.{ltb-true}
 use Rattle.maps.specs.Lists.{All}
 use Rattle.maps.specs.Sheet.{Sheet}
-use Rattle.maps.specs.Number.{width}
+use Rattle.maps.specs.Number.{values}
 use Rattle.maps.specs.Limits.{Range, leavesRange, topRange, horizonRange, sizeRange, countRange, kindRange, markRange, idRange, weightRange, rangesOf}
 use Rattle.maps.specs.Form.{among, under, passes, Form, done, ask, _>>=_, asked, each, times, Leads}
 use Rattle.maps.specs.Read.{nodeOf, headForm, nodeForm, differenceForm, Header, headerForm, sheetOf, sheetForm}
@@ -17,7 +17,7 @@ use Rattle.maps.proofs.Along.{afterNodes, afterHeader}
 -- each number that passes has a spelling, and what the form ends in has the property
 abbrev Spells : {A : Type 0} → (A → Type 0) → Form A → Type 0
 Spells P (done a) = P a
-Spells P (ask r f) = (x : ℕ) → passes r x ≡ true → (x < 128 ^ width) × Spells P (f x)
+Spells P (ask r f) = (x : ℕ) → passes r x ≡ true → (x < values) × Spells P (f x)
 
 abbrev Any : {A : Type 0} → A → Type 0
 Any a = Unit {0}
@@ -33,12 +33,12 @@ spells-each f i (suc n) h =
     spells-bind Any Any (each f (i + 1) n) (λ rest. done (a ∷ rest)) (spells-each f (i + 1) n (λ j l. h j (omega arith))) λ rest v. tt
 
 -- a range whose values can be spelled
-fits : (r : Range) (x : ℕ) → r .high < 128 ^ width → passes (among r) x ≡ true → x < 128 ^ width
+fits : (r : Range) (x : ℕ) → r .high < values → passes (among r) x ≡ true → x < values
 fits r x l p = omega (arith, in-range r x p .most)
 
 -- a node's ranges, of any kind
 pub ranges-fit : (top kind : ℕ) → top ≤ topRange .high
-    → (rangesOf top kind .delay .high < 128 ^ width) × (rangesOf top kind .latency .high < 128 ^ width) × (rangesOf top kind .operands .high < 128 ^ width)
+    → (rangesOf top kind .delay .high < values) × (rangesOf top kind .latency .high < values) × (rangesOf top kind .operands .high < values)
 ranges-fit top zero l = omega arith
 ranges-fit top (suc zero) l = omega arith
 ranges-fit top (suc (suc k)) l = omega arith
@@ -103,11 +103,11 @@ spells-sheet =
     spells-bind Any Any (times (h .differences) (differenceForm (h .nodes))) (λ ds. done (sheetOf h vs ds))
     (spells-each (λ i. differenceForm (h .nodes)) 0 (h .differences) (λ j l. spells-difference (h .nodes) (b .1))) λ ds v. tt
 
-leads-spelled : {A : Type 0} (P : A → Type 0) (f g : Form A) (ns : List ℕ) → Spells P f → Leads f ns g → All (λ n. n < 128 ^ width) ns
+leads-spelled : {A : Type 0} (P : A → Type 0) (f g : Form A) (ns : List ℕ) → Spells P f → Leads f ns g → All (λ n. n < values) ns
 leads-spelled P f g [] h l = tt
 leads-spelled P (done a) g (n ∷ ns) h l = absurd l
 leads-spelled P (ask r f) g (n ∷ ns) h l = let t = h n (l .0) in (t .0, leads-spelled P (f n) g ns (t .1) (l .1))
 
 -- the ranges and the operands' bounds all lie below the least number without a spelling
-pub leads-small : (ns : List ℕ) (g : Form Sheet) → Leads sheetForm ns g → All (λ n. n < 128 ^ width) ns
+pub leads-small : (ns : List ℕ) (g : Form Sheet) → Leads sheetForm ns g → All (λ n. n < values) ns
 leads-small ns g = leads-spelled Any sheetForm g ns spells-sheet

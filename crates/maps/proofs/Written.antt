@@ -1,5 +1,5 @@
 -- The sheet writer and the reader: what is written reads as the records, and what reads is written again, byte for byte.
-use Prim.Native.Nat.{ℕ, _+_, _-_, _^_, _≤_, _<_}
+use Prim.Native.Nat.{ℕ, _+_, _-_, _≤_, _<_}
 use mathlib.Core.Path.{_≡_, refl, ap, _∙_}
 use mathlib.Core.Bool.{Bool, true, false, cond}
 use mathlib.Core.List.{List, [], _∷_, _++_, append-nil}
@@ -10,7 +10,7 @@ use lib.ListN.{length, drop, drop-of-length-le}
 use borrow.Author.Tests.{ltb-false, le-ltb, le-leb, lt-leb}
 use Rattle.maps.specs.Lists.{All}
 use Rattle.maps.specs.Sheet.{Sheet}
-use Rattle.maps.specs.Number.{Bytes, Got, got, refusal, number, width, encoded}
+use Rattle.maps.specs.Number.{Bytes, Got, got, refusal, number, width, values, encoded}
 use Rattle.maps.specs.Form.{Rule, ground, passes, Form, done, ask, read, Leads}
 use Rattle.maps.specs.Read.{sheetForm, sheet, refused, whole, parse}
 use Rattle.maps.specs.Outcome.{accepted, within}
@@ -74,7 +74,7 @@ leads-parse ns S l =
     rw (t, le-ltb (length (spelled ns)) (length (spelled ns)) (omega arith))
 
 -- a number that is not as asked
-pub reads-fails : (r : Rule) (g : ℕ → Form Sheet) (s : List ℕ) (at x : ℕ) (rest : List ℕ) → drop at s ≡ encoded x ++ rest → x < 128 ^ width
+pub reads-fails : (r : Rule) (g : ℕ → Form Sheet) (s : List ℕ) (at x : ℕ) (rest : List ℕ) → drop at s ≡ encoded x ++ rest → x < values
     → passes r x ≡ false → read (ask r g) s at ≡ refusal (ground r) at
 reads-fails r g s at x rest e l f =
     let n : number s at ≡ got x (at + length (encoded x)) = read-at s (width - 1) at x rest l e in

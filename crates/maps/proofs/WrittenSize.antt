@@ -1,5 +1,5 @@
 -- What is written: bytes, and how many at most.
-use Prim.Native.Nat.{ℕ, zero, suc, _+_, _-_, _*_, _^_, _≤_, _<_}
+use Prim.Native.Nat.{ℕ, zero, suc, _+_, _-_, _*_, _≤_, _<_}
 use mathlib.Core.Path.{_≡_, refl, ap, _∙_}
 use mathlib.Core.Bool.{true}
 use mathlib.Core.List.{List, [], _∷_, _++_, map, map-append}
@@ -8,7 +8,7 @@ use native.Mathlib.Nat.{suc-mul, mul-le-mul-right}
 use lib.ListN.{length, length-append, length-map}
 use borrow.Author.Tests.{ltb-true}
 use Rattle.maps.specs.Lists.{All, concat}
-use Rattle.maps.specs.Number.{width, encoded, encodedUpTo, bytesFor}
+use Rattle.maps.specs.Number.{width, values, encoded, encodedUpTo, bytesFor}
 use Rattle.maps.specs.Limits.{topRange, sizeRange, countRange, operandsMost, latencyMost, rangesOf}
 use Rattle.maps.specs.Form.{Rule, among, under, passes, done}
 use Rattle.maps.specs.Read.{sheetForm}
@@ -24,7 +24,7 @@ use Rattle.maps.proofs.Spellable.{leads-small}
 use Rattle.maps.proofs.Numbers.{spelled-append}
 use Rattle.maps.proofs.Written.{writing-passes}
 
-small-bytes : (ns : List ℕ) → All (λ n. n < 128 ^ width) ns → All (λ b. b < 256) (spelled ns)
+small-bytes : (ns : List ℕ) → All (λ n. n < values) ns → All (λ b. b < 256) (spelled ns)
 small-bytes [] h = tt
 small-bytes (n ∷ ns) h = All-join (λ b. b < 256) (encoded n) (spelled ns) (written-bytes (width - 1) n (h .0)) (small-bytes ns (h .1))
 

@@ -1,12 +1,12 @@
 -- What reading is, as relations. `parse` computes them.
-use Prim.Native.Nat.{ℕ, zero, suc, _-_, _^_, _≤_, _<_}
+use Prim.Native.Nat.{ℕ, zero, suc, _-_, _≤_, _<_}
 use mathlib.Core.Path.{_≡_}
 use mathlib.Core.Bool.{false}
 use mathlib.Core.List.{List, [], _∷_, _++_}
 use mathlib.Core.Logic.{_⊎_}
 use lib.ListN.{length}
 use Rattle.maps.specs.Sheet.{Sheet}
-use Rattle.maps.specs.Number.{width, encoded}
+use Rattle.maps.specs.Number.{width, values, encoded}
 use Rattle.maps.specs.Form.{Rule, ground, passes, Form, done, ask, Leads}
 use Rattle.maps.specs.Read.{sheetForm}
 use Rattle.maps.specs.WellFormed.{WellFormed}
@@ -45,7 +45,7 @@ pub data Refuses (bytes : List ℕ) : (number place : ℕ) → Type 0 where
       → Misspelt (width - 1) rest → Refuses bytes 2 (length (spelled ns))
   -- 3, "a value, u and v included, is outside its range", or 4, "an operand id is not below the node's own"; "same place"
   value : (ns : List ℕ) (r : Rule) (g : ℕ → Form Sheet) (x : ℕ) (rest : List ℕ) → Leads sheetForm ns (ask r g) → bytes ≡ spelled ns ++ (encoded x ++ rest)
-      → x < 128 ^ width → passes r x ≡ false → Refuses bytes (ground r) (length (spelled ns))
+      → x < values → passes r x ≡ false → Refuses bytes (ground r) (length (spelled ns))
   -- 5, "bytes follow the last number; place: the first of them"
   trailing : (ns : List ℕ) (S : Sheet) (b : ℕ) (rest : List ℕ) → Leads sheetForm ns (done S) → bytes ≡ spelled ns ++ (b ∷ rest)
       → Refuses bytes 5 (length (spelled ns))

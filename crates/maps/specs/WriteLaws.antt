@@ -1,12 +1,12 @@
 -- Document 02, U1: what holds of the sheet writer and of the reader.
-use Prim.Native.Nat.{ℕ, _^_, _≤_, _<_}
+use Prim.Native.Nat.{ℕ, _≤_, _<_}
 use mathlib.Core.Path.{_≡_}
 use mathlib.Core.Logic.{_↔_, _⊎_}
 use mathlib.Core.List.{List, _++_}
 use lib.ListN.{length}
 use Rattle.maps.specs.Lists.{All}
 use Rattle.maps.specs.Sheet.{Sheet}
-use Rattle.maps.specs.Number.{Bytes, width, encoded}
+use Rattle.maps.specs.Number.{Bytes, values, encoded}
 use Rattle.maps.specs.Read.{sheet, refused, parse}
 use Rattle.maps.specs.Outcome.{accepted, refusal}
 use Rattle.maps.specs.Records.{Records, sheetMeant, recordsOf}
@@ -20,7 +20,7 @@ pub record WriterLaws (R : Records) (room : ℕ) : Type 0 where
   -- "the first number that the reader would refuse gets 3 or 4 (place: which number of the sheet, from 0)"
   pub first : (k i : ℕ) → First (numbers R) k i → writing R room ≡ refusal k i
   -- the reader refuses that number, by the same ground, where it has a spelling and stands after the numbers before it
-  pub reader : (k i : ℕ) (f : First (numbers R) k i) → f .faulty .value < 128 ^ width → (rest : List ℕ)
+  pub reader : (k i : ℕ) (f : First (numbers R) k i) → f .faulty .value < values → (rest : List ℕ)
       → Refuses (spelled (valuesOf (f .before)) ++ (encoded (f .faulty .value) ++ rest)) k (length (spelled (valuesOf (f .before))))
   -- "then 8": where the reader would refuse none
   pub tooShort : All Passes (numbers R) → room < length (spelling (sheetMeant R)) → writing R room ≡ refusal 8 (length (spelling (sheetMeant R)))
