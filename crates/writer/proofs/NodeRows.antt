@@ -1,16 +1,14 @@
 -- The numbers of a node from its row and the array of operand ids.
 use Prim.Native.Nat.{ℕ, zero, suc, _+_, _-_, _*_, _≤_}
 use mathlib.Core.Path.{_≡_}
-use mathlib.Core.Bool.{true}
-use mathlib.Core.List.{List, [], _∷_, _++_, map}
+use mathlib.Core.List.{List, _++_, map}
 use native.Mathlib.Omega.{arith}
-use native.Mathlib.Nat.{suc-mul, mul-le-mul-right}
 use native.Mathlib.Numerals.{add-one}
 use lib.ListN.{length, take, drop, length-drop}
 use lib.Seq.{length-take-le}
 use Rattle.maps.specs.Lists.{All}
-use Rattle.maps.specs.Limits.{topRange, rangesOf}
-use Rattle.maps.specs.Form.{among, under, passes}
+use Rattle.maps.specs.Limits.{topRange}
+use Rattle.maps.specs.Form.{under, passes}
 use Rattle.maps.specs.Write.{Entry, entry, headEntries, Passes}
 use Rattle.maps.specs.Sizes.{idBytesMost, bytesMost, nodeBytesMost}
 use Rattle.maps.proofs.WrittenSize.{head-ids-most, most-append, ids-most}

@@ -1,20 +1,20 @@
 -- `writing::put_cut` meets its contract. The loop's invariant: the first j leaves are written.
-use Prim.Native.Nat.{ℕ, suc, _-_, _*_, _≤_, _<_}
+use Prim.Native.Nat.{suc, _-_, _*_, _≤_, _<_}
 use mathlib.Core.Path.{_≡_}
 use mathlib.Core.List.{map}
 use native.Mathlib.Omega.{arith}
 use native.Mathlib.Nat.{suc-mul, mul-le-mul-right}
 use borrow.Author.Needs.{needs}
 use Rattle.maps.specs.Lists.{concat}
-use Rattle.maps.specs.Number.{encoded, bytesFor}
+use Rattle.maps.specs.Number.{encoded}
 use Rattle.maps.specs.Limits.{leavesRange}
 use Rattle.maps.specs.Sizes.{idBytesMost}
-use Rattle.maps.proofs.WrittenSize.{within-bytes, id-bytes}
+use Rattle.maps.proofs.WrittenSize.{id-bytes}
 use Rattle.bound.specs.Lookup.{countOf, leafOf}
 use Rattle.cover.proofs.CoverMarks.{over-get}
 use Rattle.bytes.specs.Put.{Put}
 use Rattle.bytes.proofs.Putting.{put-none, put-within}
-use Rattle.writing.proofs.Putting.{leavesTo, put-leaf, put-leaves}
+use Rattle.writing.proofs.Putting.{held-bytes, leavesTo, put-leaf, put-leaves}
 use Rattle.writing.proofs.put_cut.Statement.{statement}
 use Rattle.writing.proofs.put_cut.Tie as tie
 
@@ -25,16 +25,11 @@ Inv-loop cuts v bytes₀ at count to₀ j₀ bytes to j =
 abbrev μ-loop : tie.MeasureT-loop
 μ-loop cuts v bytes₀ at count to₀ j₀ bytes to j = count - j
 
--- the bytes that the count takes at most
-count-bytes : {x : ℕ} → x ≤ leavesRange .high → bytesFor x ≤ bytesFor (leavesRange .high)
-count-bytes = within-bytes
-
 put-requires : tie.Need-put-requires Inv-loop μ-loop
 put-requires c κs =
     let n = c .before in
     let s = n .before .before in
-    let few = rw (← n .leaf-count-in .ensures) at (s .pre .0 .1) in
-    (omega (arith, few), omega (arith, s .pre .1, count-bytes few))
+    (omega (arith, n .leaf-count-in .ensures, s .pre .0 .1), omega (arith, s .pre .1, held-bytes (n .leaf-count-in .ensures) (s .pre .0 .1)))
 
 loop-holds : tie.Need-loop-holds Inv-loop μ-loop
 loop-holds c = (omega arith, c .before .before .before .before .leaf-count-in .ensures, put-within _ (omega arith) (put-none _ _))
@@ -56,11 +51,11 @@ put-requires-2 c κs =
     let f = i .before .before .before .before .put .ensures in
     let t = i .loop-test .taken in
     let leaf = over-get (leafOf (s .args .cuts .now) (s .args .v)) (λ u. u < 256) (countOf (s .args .cuts .now) (s .args .v)) (s .pre .0 .2) (l .j) (omega (arith, l .inv .1)) in
-    let id = rw (← r .leaf-in .ensures) at leaf in
-    let count = rw (← n .leaf-count-in .ensures) at (s .pre .0 .1) in
+    let id = id-bytes {x = r .leaf-in .result} (omega (arith, leaf, r .leaf-in .ensures)) in
+    let count = held-bytes (n .leaf-count-in .ensures) (s .pre .0 .1) in
     let m = mul-le-mul-right {m = suc (l .j)} {n = leavesRange .high} idBytesMost (omega (arith, l .inv .1, s .pre .0 .1)) in (
-      omega (arith, id),
-      omega (arith, m, suc-mul (l .j) idBytesMost, id-bytes id, count-bytes count, l .inv .2 .near, l .inv .2 .wide, f .near, f .wide, s .pre .1),
+      omega (arith, leaf, r .leaf-in .ensures),
+      omega (arith, m, suc-mul (l .j) idBytesMost, id, count, l .inv .2 .near, l .inv .2 .wide, f .near, f .wide, s .pre .1),
     )
 
 loop-again : tie.Need-loop-again Inv-loop μ-loop

@@ -1,43 +1,35 @@
 -- `writing::put_node` meets its contract.
 use mathlib.Core.Path.{ap}
 use native.Mathlib.Omega.{arith}
-use Prim.Native.Nat.{ℕ, _+_, _≤_}
+use Prim.Native.Nat.{_+_}
 use Rattle.maps.specs.Label.{Label}
 use Rattle.maps.specs.Number.{bytesFor}
-use Rattle.maps.specs.Limits.{topRange, horizonRange, markRange}
+use Rattle.maps.specs.Limits.{topRange}
 use Rattle.maps.specs.Sizes.{stepBytesMost, labelBytesMost}
 use Rattle.maps.proofs.WrittenSize.{within-bytes}
 use Rattle.bytes.proofs.Putting.{put-then}
 use borrow.Author.Needs.{needs}
-use Rattle.writing.proofs.Putting.{put-most}
+use Rattle.writing.proofs.Putting.{put-most, held-bytes}
 use Rattle.writing.proofs.put_node.Statement.{statement}
 use Rattle.writing.proofs.put_node.Tie as tie
-
--- the bytes that each of the three takes at most
-step-bytes : {x : ℕ} → x ≤ horizonRange .high → bytesFor x ≤ bytesFor (horizonRange .high)
-step-bytes = within-bytes
-
-level-bytes : {x : ℕ} → x ≤ topRange .high → bytesFor x ≤ bytesFor (topRange .high)
-level-bytes = within-bytes
-
-mark-bytes : {x : ℕ} → x ≤ 1 → bytesFor x ≤ bytesFor (markRange .high)
-mark-bytes = within-bytes
 
 put-requires : tie.Need-put-requires
 put-requires c κs =
     let l = c .before .before .before .before in
     let s = l .before .before in
-    let step = rw (← ap (λ (a : Label). a .step) (l .label-of .ensures)) at (s .pre .0 .1) in
-    (omega (arith, step), omega (arith, s .pre .1, step-bytes step))
+    let step = ap (λ (a : Label). a .step) (l .label-of .ensures) in
+    (omega (arith, step, s .pre .0 .1), omega (arith, s .pre .1, held-bytes step (s .pre .0 .1)))
 
 put-requires-2 : tie.Need-put-requires-2
 put-requires-2 c κs =
     let f = c .before .before .before in
     let l = f .before .before .before .before .before in
     let s = l .before .before in
-    let step = rw (← ap (λ (a : Label). a .step) (l .label-of .ensures)) at (s .pre .0 .1) in
-    let level = rw (← ap (λ (a : Label). a .level) (l .label-of .ensures)) at (s .pre .0 .2) in
-    (omega (arith, level), omega (arith, f .put .ensures .near, f .put .ensures .wide, s .pre .1, step-bytes step, level-bytes level))
+    let step = ap (λ (a : Label). a .step) (l .label-of .ensures) in
+    let level = ap (λ (a : Label). a .level) (l .label-of .ensures) in (
+      omega (arith, level, s .pre .0 .2),
+      omega (arith, f .put .ensures .near, f .put .ensures .wide, s .pre .1, held-bytes step (s .pre .0 .1), held-bytes level (s .pre .0 .2)),
+    )
 
 put-requires-3 : tie.Need-put-requires-3
 put-requires-3 c κs =
@@ -45,8 +37,8 @@ put-requires-3 c κs =
     let f = g .before .before .before .before in
     let l = f .before .before .before .before .before in
     let s = l .before .before in
-    let step = rw (← ap (λ (a : Label). a .step) (l .label-of .ensures)) at (s .pre .0 .1) in
-    let level = rw (← ap (λ (a : Label). a .level) (l .label-of .ensures)) at (s .pre .0 .2) in (
+    let step = ap (λ (a : Label). a .step) (l .label-of .ensures) in
+    let level = ap (λ (a : Label). a .level) (l .label-of .ensures) in (
       omega (arith, s .pre .0 .3),
       omega (
         arith,
@@ -55,9 +47,9 @@ put-requires-3 c κs =
         g .put2 .ensures .near,
         g .put2 .ensures .wide,
         s .pre .1,
-        step-bytes step,
-        level-bytes level,
-        mark-bytes (s .pre .0 .3),
+        held-bytes step (s .pre .0 .1),
+        held-bytes level (s .pre .0 .2),
+        within-bytes (s .pre .0 .3),
       ),
     )
 

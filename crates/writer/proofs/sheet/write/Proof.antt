@@ -1,5 +1,4 @@
 -- `sheet::write` meets its contract: a sheet that was made is handed over where there is room.
-use native.Mathlib.Omega.{arith}
 use mathlib.Core.Path.{refl}
 use lib.ListN.{length}
 use borrow.Author.Needs.{needs}
