@@ -29,7 +29,7 @@ Misplaced zero rest = Unit {0}
 Misplaced (suc c) [] = ⊥
 Misplaced (suc c) (b ∷ rest) = (b ≡ 0) ⊎ ((128 ≤ b) × Misplaced c rest)
 
--- a number of more than one byte, and of at most 1 + g, begins here, and its bytes after the first are none
+-- a number of more than one byte begins here, and what follows is not the rest of one of at most 1 + g bytes
 abbrev pub Misspelt : (g : ℕ) → (rest : List ℕ) → Type 0
 Misspelt g [] = ⊥
 Misspelt g (b ∷ rest) = (128 ≤ b) × Misplaced g rest

@@ -66,23 +66,23 @@ pub fn number_at(sheet: &[u8], c: Cursor) -> Number
             next: Cursor { at: third },
         };
     }
-    if third < sheet.len() {
-        let high = sheet[third] as u32;
-        if high == 0 {
-            return Number::Refused(Refusal::Spelling(at));
-        }
-        if 128 <= high {
-            return Number::Refused(Refusal::Spelling(at));
-        }
-        let above = middle - 128 + 128 * high;
-        let value = low - 128 + 128 * above;
-        let after = third + 1;
-        return Number::Value {
-            value,
-            next: Cursor { at: after },
-        };
+    if sheet.len() <= third {
+        return ended(sheet);
     }
-    ended(sheet)
+    let high = sheet[third] as u32;
+    if high == 0 {
+        return Number::Refused(Refusal::Spelling(at));
+    }
+    if 128 <= high {
+        return Number::Refused(Refusal::Spelling(at));
+    }
+    let above = middle - 128 + 128 * high;
+    let value = low - 128 + 128 * above;
+    let after = third + 1;
+    Number::Value {
+        value,
+        next: Cursor { at: after },
+    }
 }
 
 // The number at a cursor, in a range.

@@ -21,9 +21,9 @@ use Rattle.cover.proofs.CoverMarks.{over-more}
 pub put-most : {x most : ℕ} {a b : List ℕ} {p q : ℕ} → x ≤ most → Put (bytesFor x) a b p q (encoded x) → Put (bytesFor most) a b p q (encoded x)
 put-most l f = put-within _ (within-bytes l) f
 
--- the bytes of a number that a table has
-pub held-bytes : {x y most : ℕ} → x ≡ y → y ≤ most → bytesFor x ≤ bytesFor most
-held-bytes e l = within-bytes (omega arith)
+-- the bytes of a number that equals one in a table
+pub equal-bytes : {x y most : ℕ} → x ≡ y → y ≤ most → bytesFor x ≤ bytesFor most
+equal-bytes e l = within-bytes (omega arith)
 
 -- the first j leaves of the row of v
 abbrev pub leavesTo : (cuts : List ℕ) (v j : ℕ) → List ℕ

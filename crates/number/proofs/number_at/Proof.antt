@@ -65,15 +65,32 @@ returns-5 c =
       ne-eqb _ _ (zero .if4 .left),
     )
 
--- the third byte is
+-- two bytes of 128 or more, and the sheet ends
+returns-6 : tie.Need-returns-6
+unfolding numberUpTo groups
+returns-6 c =
+    let three = c .before in
+    let middle = three .before in
+    let two = middle .before .before .before in
+    let one = two .before in
+    c .ended3 .ensures
+    ∙ simp (
+      lt-ltb _ _ (one .before .before .if1 .left),
+      le-ltb _ _ (one .if2 .left),
+      lt-ltb _ _ (two .if3 .left),
+      le-ltb _ _ (middle .if5 .left),
+      le-ltb _ _ (three .if6 .taken),
+    )
+
 cast-high : tie.Need-cast-high
 cast-high c =
     let start = c .before .before .before .before .before .before .before .before .before .before in
     omega (arith, c .shared-slice-known4 .given (start .args .c .at + 1 + 1))
 
-returns-6 : tie.Need-returns-6
+-- the third byte is the last
+returns-7 : tie.Need-returns-7
 unfolding numberUpTo groups
-returns-6 c =
+returns-7 c =
     let three = c .before .before in
     let middle = three .before in
     let two = middle .before .before .before in
@@ -83,13 +100,13 @@ returns-6 c =
       le-ltb _ _ (one .if2 .left),
       lt-ltb _ _ (two .if3 .left),
       le-ltb _ _ (middle .if5 .left),
-      lt-ltb _ _ (three .if6 .taken),
+      lt-ltb _ _ (three .if6 .left),
       c .if7 .taken,
     )
 
-returns-7 : tie.Need-returns-7
+returns-8 : tie.Need-returns-8
 unfolding numberUpTo groups
-returns-7 c =
+returns-8 c =
     let three = c .before .before .before in
     let middle = three .before in
     let two = middle .before .before .before in
@@ -99,7 +116,7 @@ returns-7 c =
       le-ltb _ _ (one .if2 .left),
       lt-ltb _ _ (two .if3 .left),
       le-ltb _ _ (middle .if5 .left),
-      lt-ltb _ _ (three .if6 .taken),
+      lt-ltb _ _ (three .if6 .left),
       le-ltb _ _ (c .if8 .taken),
     )
 
@@ -127,9 +144,9 @@ add-value-2 c =
       before .shared-slice-known2 .given (before .before .before .before .args .c .at),
     )
 
-returns-8 : tie.Need-returns-8
+returns-9 : tie.Need-returns-9
 unfolding numberUpTo groups
-returns-8 c =
+returns-9 c =
     let three = c .before .before .before in
     let middle = three .before in
     let two = middle .before .before .before in
@@ -139,26 +156,9 @@ returns-8 c =
       le-ltb _ _ (one .if2 .left),
       lt-ltb _ _ (two .if3 .left),
       le-ltb _ _ (middle .if5 .left),
-      lt-ltb _ _ (three .if6 .taken),
+      lt-ltb _ _ (three .if6 .left),
       lt-ltb _ _ (c .if8 .left),
       ne-eqb _ _ (c .before .if7 .left),
-    )
-
--- there is none
-returns-9 : tie.Need-returns-9
-unfolding numberUpTo groups
-returns-9 c =
-    let three = c .before in
-    let middle = three .before in
-    let two = middle .before .before .before in
-    let one = two .before in
-    c .ended3 .ensures
-    ∙ simp (
-      lt-ltb _ _ (one .before .before .if1 .left),
-      le-ltb _ _ (one .if2 .left),
-      lt-ltb _ _ (two .if3 .left),
-      le-ltb _ _ (middle .if5 .left),
-      le-ltb _ _ (three .if6 .left),
     )
 
 pub number-at-spec : {M : Type 1} → statement M
@@ -180,15 +180,15 @@ number-at-spec =
     mul-value
     add-value
     returns-5
+    (λ c κs. search needs)
+    returns-6
     (λ c. search needs)
     cast-high
-    returns-6
     returns-7
+    returns-8
     mul-above
     add-above
     mul-value-2
     add-value-2
     (λ c. search needs)
-    returns-8
-    (λ c κs. search needs)
     returns-9)

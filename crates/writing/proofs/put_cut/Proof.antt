@@ -14,7 +14,7 @@ use Rattle.bound.specs.Lookup.{countOf, leafOf}
 use Rattle.cover.proofs.CoverMarks.{over-get}
 use Rattle.bytes.specs.Put.{Put}
 use Rattle.bytes.proofs.Putting.{put-none, put-within}
-use Rattle.writing.proofs.Putting.{held-bytes, leavesTo, put-leaf, put-leaves}
+use Rattle.writing.proofs.Putting.{equal-bytes, leavesTo, put-leaf, put-leaves}
 use Rattle.writing.proofs.put_cut.Statement.{statement}
 use Rattle.writing.proofs.put_cut.Tie as tie
 
@@ -29,7 +29,7 @@ put-requires : tie.Need-put-requires Inv-loop μ-loop
 put-requires c κs =
     let n = c .before in
     let s = n .before .before in
-    (omega (arith, n .leaf-count-in .ensures, s .pre .0 .1), omega (arith, s .pre .1, held-bytes (n .leaf-count-in .ensures) (s .pre .0 .1)))
+    (omega (arith, n .leaf-count-in .ensures, s .pre .0 .1), omega (arith, s .pre .1, equal-bytes (n .leaf-count-in .ensures) (s .pre .0 .1)))
 
 loop-holds : tie.Need-loop-holds Inv-loop μ-loop
 loop-holds c = (omega arith, c .before .before .before .before .leaf-count-in .ensures, put-within _ (omega arith) (put-none _ _))
@@ -52,7 +52,7 @@ put-requires-2 c κs =
     let t = i .loop-test .taken in
     let leaf = over-get (leafOf (s .args .cuts .now) (s .args .v)) (λ u. u < 256) (countOf (s .args .cuts .now) (s .args .v)) (s .pre .0 .2) (l .j) (omega (arith, l .inv .1)) in
     let id = id-bytes {x = r .leaf-in .result} (omega (arith, leaf, r .leaf-in .ensures)) in
-    let count = held-bytes (n .leaf-count-in .ensures) (s .pre .0 .1) in
+    let count = equal-bytes (n .leaf-count-in .ensures) (s .pre .0 .1) in
     let m = mul-le-mul-right {m = suc (l .j)} {n = leavesRange .high} idBytesMost (omega (arith, l .inv .1, s .pre .0 .1)) in (
       omega (arith, leaf, r .leaf-in .ensures),
       omega (arith, m, suc-mul (l .j) idBytesMost, id, count, l .inv .2 .near, l .inv .2 .wide, f .near, f .wide, s .pre .1),

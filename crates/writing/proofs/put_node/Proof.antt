@@ -9,7 +9,7 @@ use Rattle.maps.specs.Sizes.{stepBytesMost, labelBytesMost}
 use Rattle.maps.proofs.WrittenSize.{within-bytes}
 use Rattle.bytes.proofs.Putting.{put-then}
 use borrow.Author.Needs.{needs}
-use Rattle.writing.proofs.Putting.{put-most, held-bytes}
+use Rattle.writing.proofs.Putting.{put-most, equal-bytes}
 use Rattle.writing.proofs.put_node.Statement.{statement}
 use Rattle.writing.proofs.put_node.Tie as tie
 
@@ -18,7 +18,7 @@ put-requires c κs =
     let l = c .before .before .before .before in
     let s = l .before .before in
     let step = ap (λ (a : Label). a .step) (l .label-of .ensures) in
-    (omega (arith, step, s .pre .0 .1), omega (arith, s .pre .1, held-bytes step (s .pre .0 .1)))
+    (omega (arith, step, s .pre .0 .1), omega (arith, s .pre .1, equal-bytes step (s .pre .0 .1)))
 
 put-requires-2 : tie.Need-put-requires-2
 put-requires-2 c κs =
@@ -28,7 +28,7 @@ put-requires-2 c κs =
     let step = ap (λ (a : Label). a .step) (l .label-of .ensures) in
     let level = ap (λ (a : Label). a .level) (l .label-of .ensures) in (
       omega (arith, level, s .pre .0 .2),
-      omega (arith, f .put .ensures .near, f .put .ensures .wide, s .pre .1, held-bytes step (s .pre .0 .1), held-bytes level (s .pre .0 .2)),
+      omega (arith, f .put .ensures .near, f .put .ensures .wide, s .pre .1, equal-bytes step (s .pre .0 .1), equal-bytes level (s .pre .0 .2)),
     )
 
 put-requires-3 : tie.Need-put-requires-3
@@ -47,8 +47,8 @@ put-requires-3 c κs =
         g .put2 .ensures .near,
         g .put2 .ensures .wide,
         s .pre .1,
-        held-bytes step (s .pre .0 .1),
-        held-bytes level (s .pre .0 .2),
+        equal-bytes step (s .pre .0 .1),
+        equal-bytes level (s .pre .0 .2),
         within-bytes (s .pre .0 .3),
       ),
     )
