@@ -4,10 +4,10 @@ use Prim.Native.Nat.{ℕ, suc, _+_}
 use mathlib.Core.Bool.{Bool, true, false, cond, _&&_, _||_, not}
 use mathlib.Core.List.{List, [], _∷_}
 use lib.Dec.{eqb, leb}
-use lib.ListN.{length}
+use lib.ListN.{length, drop}
 use Rattle.maps.specs.Number.{byteAt}
 use Rattle.blif.specs.Lines.{newline, comment, backslash}
-use Rattle.blif.specs.Words.{Word, blank}
+use Rattle.blif.specs.Words.{Word, blank, words}
 
 -- a backslash that joins stands before this rest: "at a line's end", also at the text's
 abbrev pub joinsHere : ℕ → (rest : List ℕ) → Bool
@@ -51,10 +51,14 @@ unfoldable pub pastLine : (rest : List ℕ) → List ℕ
 unfolding from past
 pastLine rest = past (from endsLine rest)
 
--- the name that begins here: a name in a table is the position where it is defined
-unfoldable pub nameHere : (rest : List ℕ) → Word
+-- the name that begins at a position, and the words of the line from a position on
+abbrev pub nameAt : (text : List ℕ) → (at : ℕ) → Word
 unfolding until
-nameHere rest = until endsWord rest
+nameAt text at = until endsWord (drop at text)
+
+abbrev pub wordsAt : (text : List ℕ) → (at : ℕ) → List Word
+unfolding until words
+wordsAt text at = words (until endsLine (drop at text))
 
 -- how many bytes are 10: the line at position `at` of a text has the number 1 + tens (take at text)
 unfoldable pub newlines : List ℕ → ℕ

@@ -2,7 +2,7 @@
 ghost use Prim.Native.Nat.{_≤_, _<_};
 ghost use mathlib.Core.Path.{_≡_};
 ghost use lib.ListN.{length, drop};
-ghost use Rattle.blif.specs.Words.{blank, words, bytesOf};
+ghost use Rattle.blif.specs.Words.{blank, words};
 ghost use Rattle.blif.specs.Scan.{until, from, endsLine, endsWord, endsBlanks, joinAt};
 ghost use Rattle.maps.specs.Lists.{equal};
 ghost use Rattle.scan.specs.Steps.{Step, Next};
@@ -163,36 +163,4 @@ pub fn same_name(text: &[u8], a: usize, b: usize) -> bool
         q = name_next(text, q);
     }
     q == 0
-}
-
-// Whether the word at a position is spelled so.
-pub fn spells(text: &[u8], at: usize, word: &[u8]) -> bool
-    ensures { λ r. ⌜ r ≡ equal (until endsWord (drop at (now (text .entry)))) (now (word .entry)) ⌝ }
-{
-    false
-}
-
-pub fn dot(text: &[u8], at: usize) -> bool
-    ensures { λ r. ⌜ r ≡ equal (until endsWord (drop at (now (text .entry)))) (bytesOf ".model") ⌝ }
-{
-    spells(text, at, b".model")
-}
-const MODEL: [u8; 6] = *b".model";
-pub fn dot2(text: &[u8], at: usize) -> bool
-    ensures { λ r. ⌜ r ≡ equal (until endsWord (drop at (now (text .entry)))) (bytesOf ".model") ⌝ }
-{
-    let word = MODEL;
-    spells(text, at, &word)
-}
-pub fn dot3(text: &[u8], at: usize) -> bool
-    ensures { λ r. ⌜ r ≡ equal (until endsWord (drop at (now (text .entry)))) (bytesOf ".model") ⌝ }
-{
-    let word = *b".model";
-    spells(text, at, &word)
-}
-pub fn dot4(text: &[u8], at: usize) -> bool
-    ensures { λ r. ⌜ r ≡ equal (until endsWord (drop at (now (text .entry)))) (bytesOf ".model") ⌝ }
-{
-    let word = [46u8, 109, 111, 100, 101, 108];
-    spells(text, at, &word)
 }
