@@ -85,14 +85,14 @@ tens-at s at = sym (tens-append (take at s) (drop at s)) ∙ ap newlines (take-a
 
 -- The lines with words from position `at` on, where a line begins: that line's words, and the lines from `next` on, where `next` is after it.
 -- The number of a line is 1 and the bytes 10 before it.
-pub lines-at : (s : List ℕ) (at stageAfter : ℕ) → at < length s → drop stageAfter s ≡ pastLine (drop at s) →
+pub lines-at : (s : List ℕ) (at next : ℕ) → at < length s → drop next s ≡ pastLine (drop at s) →
     wordLines (joined (1 + newlines (take at s)) (lines (drop at s)))
-    ≡ withWords (1 + newlines (take at s)) (words (until endsLine (drop at s))) (wordLines (joined (1 + newlines (take stageAfter s)) (lines (drop stageAfter s))))
+    ≡ withWords (1 + newlines (take at s)) (words (until endsLine (drop at s))) (wordLines (joined (1 + newlines (take next s)) (lines (drop next s))))
 unfolding wordLines
-lines-at s at stageAfter l e =
+lines-at s at next l e =
     ap wordLines (f .law)
     ∙ ap (λ r. withWords n (words (until endsLine (drop at s))) (wordLines (joined (n + f .count) (lines r)))) (sym e)
-    ∙ ap (λ k. withWords n (words (until endsLine (drop at s))) (wordLines (joined k (lines (drop stageAfter s))))) counts
+    ∙ ap (λ k. withWords n (words (until endsLine (drop at s))) (wordLines (joined k (lines (drop next s))))) counts
   where
     n : ℕ
     n = 1 + newlines (take at s)
@@ -100,8 +100,8 @@ lines-at s at stageAfter l e =
     f : FirstLine (1 + newlines (take at s)) (drop at s)
     f = subst (FirstLine (1 + newlines (take at s))) (sym (at-cons s at l)) (first-line (1 + newlines (take at s)) (byteAt s at) (drop (at + 1) s))
 
-    counts : 1 + newlines (take at s) + f .count ≡ 1 + newlines (take stageAfter s)
-    counts = omega (arith, tens-at s at, tens-at s stageAfter, f .counted, ap newlines e)
+    counts : 1 + newlines (take at s) + f .count ≡ 1 + newlines (take next s)
+    counts = omega (arith, tens-at s at, tens-at s next, f .counted, ap newlines e)
 
 pub lines-end : (s : List ℕ) (at n : ℕ) → length s ≤ at → wordLines (joined n (lines (drop at s))) ≡ []
 unfolding wordLines joined lines

@@ -8,11 +8,8 @@ use lib.ListN.{replicate}
 use Rattle.maps.specs.Lists.{all, equal, below, concat}
 use Rattle.maps.specs.Outcome.{Outcome, accepted, refusal}
 use Rattle.blif.specs.Words.{bytesOf}
-use Rattle.blif.specs.Limits.{Caller}
+use Rattle.blif.specs.Limits.{Caller, caller}
 use Rattle.blif.specs.Import.{importing}
-
-abbrev caller : (leaves top horizon table level : ℕ) → Caller
-caller k t h table level = record { leaves = k; top = t; horizon = h; table = table; level = level }
 
 -- K = 4, T = 8, H = 9, and d = 2
 abbrev usual : Caller

@@ -60,6 +60,9 @@ pub record Caller : Type 0 where
   pub table : ℕ
   pub level : ℕ
 
+abbrev pub caller : (leaves top horizon table level : ℕ) → Caller
+caller k t h table level = record { leaves = k; top = t; horizon = h; table = table; level = level }
+
 -- "d is the quotient rounded up"
 abbrev pub delayOf : (table level : ℕ) → ℕ
 delayOf table level = (table + (level - 1)) / level

@@ -21,10 +21,14 @@ abbrev pub kindOf : List Word → Kind
 kindOf [] = input
 kindOf (u ∷ us) = logic
 
+-- the inputs of these names
+abbrev pub inputsOf : List Word → List Definition
+inputsOf ns = map (λ n. definition n input []) ns
+
 -- what a line defines: "A `.latch` is a box with d = 0 and lat = 1."
 abbrev pub defined : Statement → List Definition
 defined (model n) = []
-defined (inputs ns) = map (λ n. definition n input []) ns
+defined (inputs ns) = inputsOf ns
 defined (outputs ns) = []
 defined (names us o) = definition o (kindOf us) us ∷ []
 defined row = []

@@ -5,11 +5,11 @@ use mathlib.Core.Bool.{Bool, true, false, _||_}
 use mathlib.Core.List.{List}
 use native.Mathlib.Omega.{arith}
 use lib.Dec.{eqb}
-use lib.ListN.{length, getD, drop}
+use lib.ListN.{length, getD, drop, drop-of-length-le}
 use borrow.Author.Tests.{eq-eqb, ne-eqb, le-leb, lt-leb}
 use Rattle.maps.specs.Number.{byteAt}
-use Rattle.blif.specs.Scan.{from, joinAt}
-use Rattle.blif.proofs.Positions.{from-at}
+use Rattle.blif.specs.Scan.{from, endsLine, atLineEnd, joinAt}
+use Rattle.blif.proofs.Positions.{at-cons, from-at}
 use Rattle.scan.specs.Steps.{Step, stays, goes}
 
 module _ (stop : ℕ → Bool) (s : List ℕ) (at : ℕ) (l : at < length s) where
@@ -34,6 +34,13 @@ pub record Gone (stop : ℕ → Bool) (s : List ℕ) (at next : ℕ) : Type 0 wh
 pub turn-goes : (stop : ℕ → Bool) (s : List ℕ) (at next : ℕ) → Step stop s at next → (next ≡ at → ⊥) → Gone stop s at next
 turn-goes stop s at next (stays e q) h = absurd (h e)
 turn-goes stop s at next (goes l m q) h = record { on = l; same = q }
+
+-- whether the line ends at a position
+pub line-ended : (s : List ℕ) (at : ℕ) → length s ≤ at → true ≡ atLineEnd (drop at s)
+line-ended s at l = rw (drop-of-length-le s l) refl
+
+pub line-byte : (s : List ℕ) (at : ℕ) → at < length s → endsLine (byteAt s at) ≡ atLineEnd (drop at s)
+line-byte s at l = rw (at-cons s at l) refl
 
 -- a backslash that joins
 pub not-slash : (s : List ℕ) (at : ℕ) → (getD s at 0 ≡ 92 → ⊥) → false ≡ joinAt s at

@@ -1,0 +1,116 @@
+-- Rows, names and reads of definitions one after the other; the ids of names when more are defined; names that come once.
+use Prim.Native.Nat.{ℕ, suc, _+_, _*_, _<_}
+use mathlib.Core.Path.{_≡_, refl, sym, ap, _∙_}
+use mathlib.Core.Bool.{Bool, true, false, cond, _&&_, _||_, not, and-assoc, or-assoc}
+use mathlib.Core.List.{List, [], _∷_, _++_, map, append-assoc, map-append}
+use native.Mathlib.Omega.{arith}
+use lib.ListN.{length, length-append}
+use Rattle.maps.specs.Lists.{all, equal}
+use Rattle.maps.specs.Sheet.{isLogic, latencyOf}
+use Rattle.maps.specs.WellFormed.{codeOf}
+use Rattle.maps.proofs.Over.{and-true}
+use Rattle.blif.specs.Words.{Word}
+use Rattle.blif.specs.Names.{Definition, namesOf, readsOf, has, fresh}
+use Rattle.blif.specs.Import.{idOf}
+use Rattle.blif.proofs.Naming.{has-place, id-first}
+use Rattle.blif.proofs.Ordering.{Once, once-none, once-more}
+use Rattle.model.specs.Rows.{rowsFrom}
+
+pub names-append : (xs ys : List Definition) → namesOf (xs ++ ys) ≡ namesOf xs ++ namesOf ys
+names-append xs ys = map-append (λ (d : Definition). d .name) xs ys
+
+pub reads-append : (xs ys : List Definition) → readsOf (xs ++ ys) ≡ readsOf xs ++ readsOf ys
+reads-append [] ys = refl
+reads-append (x ∷ xs) ys = ap (λ ws. x .reads ++ ws) (reads-append xs ys) ∙ sym (append-assoc (x .reads) (readsOf xs) (readsOf ys))
+
+-- the rows of later definitions begin where the operands of the earlier ones end
+module _ (d : ℕ) (m : Word → Bool) where
+  pub rows-append : (e : ℕ) (xs ys : List Definition) → rowsFrom d m e (xs ++ ys) ≡ rowsFrom d m e xs ++ rowsFrom d m (e + length (readsOf xs)) ys
+  rows-append e [] ys = let z : e + 0 ≡ e = omega arith in rw z refl
+  rows-append e (x ∷ xs) ys =
+      let n : e + length (x .reads) + length (readsOf xs) ≡ e + length (x .reads ++ readsOf xs) = omega (arith, length-append (x .reads) (readsOf xs)) in
+      ap
+      (λ (rows : List ℕ). codeOf (x .kind) ∷ cond (m (x .name)) 1 0 ∷ cond (isLogic (x .kind)) d 0 ∷ latencyOf (x .kind) ∷ (e + length (x .reads)) ∷ rows)
+      (rows-append (e + length (x .reads)) xs ys ∙ ap (λ (k : ℕ). rowsFrom d m (e + length (x .reads)) xs ++ rowsFrom d m k ys) n)
+
+  pub rows-length : (e : ℕ) (xs : List Definition) → length (rowsFrom d m e xs) ≡ 5 * length xs
+  rows-length e [] = refl
+  rows-length e (x ∷ xs) = omega (arith, rows-length (e + length (x .reads)) xs)
+
+-- a name that is there keeps its id when more names follow
+pub id-grows : (ns ms : List Word) (w : Word) → has ns w ≡ true → idOf (ns ++ ms) w ≡ idOf ns w
+id-grows [] ms w h = let z : _≡_ {A = ℕ} 0 1 = cc in absurd (omega arith)
+id-grows (n ∷ ns) ms w h = go (equal w n) h (id-grows ns ms w)
+  where
+    go : (b : Bool) → (b || has ns w) ≡ true → (has ns w ≡ true → idOf (ns ++ ms) w ≡ idOf ns w) → _≡_ {A = ℕ} (cond b 0 (suc (idOf (ns ++ ms) w))) (cond b 0 (suc (idOf ns w)))
+    go true e rec = refl
+    go false e rec = ap suc (rec e)
+
+pub ids-grow : (ns ms ws : List Word) → all (has ns) ws ≡ true → map (idOf (ns ++ ms)) ws ≡ map (idOf ns) ws
+ids-grow ns ms [] h = refl
+ids-grow ns ms (w ∷ ws) h =
+    let a = and-true (has ns w) (all (has ns) ws) h in
+    rw (id-grows ns ms w (a .0), ids-grow ns ms ws (a .1)) refl
+
+-- and is below the count of the names
+pub id-below : (ns : List Word) (w : Word) → has ns w ≡ true → idOf ns w < length ns
+id-below ns w h = let p = has-place ns w h in omega (arith, p .1, id-first ns w (p .0) (p .1) (p .2) .0)
+
+pub has-append : (ns ms : List Word) (w : Word) → has (ns ++ ms) w ≡ (has ns w || has ms w)
+has-append [] ms w = refl
+has-append (n ∷ ns) ms w = ap (λ (b : Bool). equal w n || b) (has-append ns ms w) ∙ sym (or-assoc (equal w n) (has ns w) (has ms w))
+
+pub all-grows : (ns ms ws : List Word) → all (has ns) ws ≡ true → all (has (ns ++ ms)) ws ≡ true
+all-grows ns ms [] h = refl
+all-grows ns ms (w ∷ ws) h =
+    let a = and-true (has ns w) (all (has ns) ws) h in
+    rw (has-append ns ms w, a .0, all-grows ns ms ws (a .1)) refl
+
+-- a test of two lists after each other
+pub all-append : {A : Type 0} (p : A → Bool) (xs ys : List A) → all p (xs ++ ys) ≡ (all p xs && all p ys)
+all-append p [] ys = refl
+all-append p (x ∷ xs) ys = ap (λ (b : Bool). p x && b) (all-append p xs ys) ∙ sym (and-assoc (p x) (all p xs) (all p ys))
+
+-- none of the words is among the names
+abbrev pub apart : (names words : List Word) → Bool
+apart ns ws = all (λ w. not (has ns w)) ws
+
+apart-more : (n : Word) (old ws : List Word) → apart (n ∷ old) ws ≡ (apart (n ∷ []) ws && apart old ws)
+apart-more n old [] = refl
+apart-more n old (w ∷ ws) = go (equal w n) (has old w) (apart (n ∷ old) ws) (apart (n ∷ []) ws) (apart old ws) (apart-more n old ws)
+  where
+    go : (a b x y z : Bool) → x ≡ (y && z) → (not (a || b) && x) ≡ ((not (a || false) && y) && (not b && z))
+    go true b x y z e = refl
+    go false true x true z e = refl
+    go false true x false z e = refl
+    go false false x y z e = e
+
+-- Fresh names are apart from the old ones, and fresh among themselves.
+pub fresh-splits : (old new : List Word) → fresh old new ≡ (apart old new && fresh [] new)
+fresh-splits old [] = refl
+fresh-splits old (n ∷ new) =
+    go (has old n) (fresh (n ∷ old) new) (apart (n ∷ old) new) (apart (n ∷ []) new) (apart old new) (fresh (n ∷ []) new) (fresh [] new) (fresh-splits (n ∷ old) new) (apart-more n old new) (fresh-splits (n ∷ []) new)
+  where
+    go : (h f a b c g k : Bool) → f ≡ (a && k) → a ≡ (b && c) → g ≡ (b && k) → (not h && f) ≡ ((not h && c) && g)
+    go true f a b c g k p q r = refl
+    go false f a true true g k p q r = p ∙ ap (λ x. x && k) q ∙ sym r
+    go false f a true false g k p q r = p ∙ ap (λ x. x && k) q
+    go false f a false true g k p q r = p ∙ ap (λ x. x && k) q ∙ sym r
+    go false f a false false g k p q r = p ∙ ap (λ x. x && k) q
+
+pub fresh-joins : (old new : List Word) → fresh [] (old ++ new) ≡ (fresh [] old && fresh old new)
+fresh-joins [] new = refl
+fresh-joins (n ∷ old) new =
+    fresh-splits (n ∷ []) (old ++ new)
+    ∙ rw (all-append (λ w. not (has (n ∷ []) w)) old new, fresh-joins old new, fresh-splits (n ∷ []) old, fresh-splits (n ∷ old) new, fresh-splits old new, apart-more n old new)
+    (go (apart (n ∷ []) old) (apart (n ∷ []) new) (fresh [] old) (apart old new) (fresh [] new))
+  where
+    go : (a b c x y : Bool) → ((a && b) && (c && (x && y))) ≡ ((a && c) && ((b && x) && y))
+    go true true c x y = refl
+    go true false true x y = refl
+    go true false false x y = refl
+    go false b c x y = refl
+
+-- names that are fresh come once
+pub fresh-once : (ns : List Word) → fresh [] ns ≡ true → Once ns
+fresh-once ns e = once-more [] ns once-none e
