@@ -14,9 +14,6 @@ use Rattle.blif.specs.Import.{idOf}
 abbrev pub rowMeant : (d : ℕ) → Kind → (end : ℕ) → NodeRow
 rowMeant d k end = record { kind = codeOf k; output = 0; delay = cond (isLogic k) d 0; latency = latencyOf k; end = end }
 
-abbrev pub rowNumbers : NodeRow → List ℕ
-rowNumbers r = r .kind ∷ r .output ∷ r .delay ∷ r .latency ∷ r .end ∷ []
-
 -- the row of a definition, marked by its name
 abbrev pub rowOf : (d : ℕ) → (marked : Word → Bool) → (end : ℕ) → Definition → List ℕ
 rowOf d m end x = codeOf (x .kind) ∷ cond (m (x .name)) 1 0 ∷ cond (isLogic (x .kind)) d 0 ∷ latencyOf (x .kind) ∷ end ∷ []

@@ -1,7 +1,7 @@
 -- The numbers of a row.
 use Prim.Native.Nat.{ℕ, _+_, _-_, _*_, _≤_, _<_, min}
-use mathlib.Core.Path.{_≡_}
-use mathlib.Core.List.{List}
+use mathlib.Core.Path.{_≡_, ap, _∙_}
+use mathlib.Core.List.{List, [], _∷_, _++_, append-assoc}
 use native.Mathlib.Omega.{arith}
 use native.Mathlib.Numerals.{add-one}
 use lib.ListN.{length}
@@ -27,3 +27,11 @@ module _ (nodes operands : List ℕ) (v : ℕ) (row : NodeRow) (e : row ≡ node
 
   pub end-own : row .end ≤ length operands → row .end ≡ endOf nodes operands (v + 1)
   end-own l = omega (arith, end-is)
+
+-- five numbers stored one behind the other stand behind what stood before
+pub five-more : (front : List ℕ) {a b c d e : List ℕ} (v w x y z : ℕ) → a ≡ front ++ (v ∷ []) → b ≡ a ++ (w ∷ []) → c ≡ b ++ (x ∷ []) → d ≡ c ++ (y ∷ [])
+    → e ≡ d ++ (z ∷ []) → e ≡ front ++ (v ∷ w ∷ x ∷ y ∷ z ∷ [])
+five-more front v w x y z p q r s t = t ∙ shift z (v ∷ w ∷ x ∷ y ∷ []) (s ∙ shift y (v ∷ w ∷ x ∷ []) (r ∙ shift x (v ∷ w ∷ []) (q ∙ shift w (v ∷ []) p)))
+  where
+    shift : {l : List ℕ} (n : ℕ) (m : List ℕ) → l ≡ front ++ m → l ++ (n ∷ []) ≡ front ++ (m ++ (n ∷ []))
+    shift {l} n m h = ap (λ (k : List ℕ). k ++ (n ∷ [])) h ∙ append-assoc front m (n ∷ [])

@@ -1,7 +1,7 @@
 -- The records as C hands them over: flat rows of 32-bit numbers.
 use Prim.Native.Nat.{ℕ, zero, suc, _+_, _-_, _*_, _/_, min}
 use mathlib.Core.Bool.{cond}
-use mathlib.Core.List.{List, map}
+use mathlib.Core.List.{List, [], _∷_, map}
 use lib.Dec.{ltb}
 use lib.IntN.{ℤ, pos, negsuc}
 use lib.ListN.{length, getD, take, drop}
@@ -11,10 +11,15 @@ use Rattle.maps.specs.Write.{Entry, nodeNumbers, differenceNumbers}
 use Rattle.records.specs.declared.NodeRow.{NodeRow}
 use Rattle.records.specs.declared.DifferenceRow.{DifferenceRow}
 
--- where the row of a node begins, and that of a difference
+-- where the row of a node begins
 abbrev pub nodePlace : ℕ → ℕ
 nodePlace v = v * 5
 
+-- where its mark stands
+abbrev pub markPlace : ℕ → ℕ
+markPlace v = nodePlace v + 1
+
+-- where the row of a difference begins
 abbrev pub differencePlace : ℕ → ℕ
 differencePlace j = j * 3
 
@@ -27,11 +32,14 @@ abbrev pub nodeRow : List ℕ → ℕ → NodeRow
 nodeRow nodes v =
     record {
       kind = getD nodes (nodePlace v) 0;
-      output = getD nodes (nodePlace v + 1) 0;
+      output = getD nodes (markPlace v) 0;
       delay = getD nodes (nodePlace v + 2) 0;
       latency = getD nodes (nodePlace v + 3) 0;
       end = getD nodes (nodePlace v + 4) 0;
     }
+
+abbrev pub rowNumbers : NodeRow → List ℕ
+rowNumbers r = r .kind ∷ r .output ∷ r .delay ∷ r .latency ∷ r .end ∷ []
 
 -- u, v, w
 abbrev pub differenceRow : List ℕ → ℕ → DifferenceRow

@@ -1,9 +1,10 @@
 // The records as C hands them over: rows of five numbers for the nodes and of three for the differences, and one array of operand ids.
 ghost use mathlib.Core.Path.{_≡_};
-ghost use Prim.Native.Nat.{_+_, _/_, _≤_};
-ghost use lib.ListN.{length};
+ghost use Prim.Native.Nat.{_+_, _/_, _<_, _≤_};
+ghost use mathlib.Core.List.{[], _∷_, _++_};
+ghost use lib.ListN.{length, take, set};
 ghost use Rattle.maps.specs.Write.{codeOfWeight};
-ghost use Rattle.records.specs.Rows.{nodePlace, differencePlace, rowsIn, nodeRow, differenceRow, endOf, signed};
+ghost use Rattle.records.specs.Rows.{nodePlace, markPlace, differencePlace, rowsIn, nodeRow, rowNumbers, differenceRow, endOf, signed};
 
 // A node without its operands, and where these end in the array of operand ids.
 pub struct NodeRow {
@@ -48,6 +49,35 @@ pub fn node_at(nodes: &[u32], v: usize) -> NodeRow
         latency: nodes[row + 3],
         end: nodes[row + 4],
     }
+}
+
+// Stores a number behind the first `count`; how many there are with it.
+pub fn append(numbers: &mut [u32], count: usize, x: u32) -> usize
+    requires { ⌜ count < length (now numbers) ⌝ }
+    ensures { λ r. ⌜ (r ≡ count + 1) × (take r (now (numbers .exit)) ≡ take count (now (numbers .entry)) ++ (x ∷ [])) × (length (now (numbers .exit)) ≡ length (now (numbers .entry))) ⌝ }
+{
+    numbers[count] = x;
+    count + 1
+}
+
+// Stores the row of node v behind those of the nodes before it.
+pub fn put_row(nodes: &mut [u32], v: usize, row: NodeRow)
+    requires { ⌜ nodePlace (v + 1) ≤ length (now nodes) ⌝ }
+    ensures { λ _. ⌜ (take (nodePlace (v + 1)) (now (nodes .exit)) ≡ take (nodePlace v) (now (nodes .entry)) ++ rowNumbers row) × (length (now (nodes .exit)) ≡ length (now (nodes .entry))) ⌝ }
+{
+    let first = append(nodes, v * 5, row.kind);
+    let second = append(nodes, first, row.output);
+    let third = append(nodes, second, row.delay);
+    let fourth = append(nodes, third, row.latency);
+    append(nodes, fourth, row.end);
+}
+
+// Marks node v as an output.
+pub fn mark_output(nodes: &mut [u32], v: usize)
+    requires { ⌜ nodePlace (v + 1) ≤ length (now nodes) ⌝ }
+    ensures { λ _. ⌜ now (nodes .exit) ≡ set (now (nodes .entry)) (markPlace v) 1 ⌝ }
+{
+    nodes[v * 5 + 1] = 1;
 }
 
 // The row of difference j.

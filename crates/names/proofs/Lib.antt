@@ -1,0 +1,4 @@
+pub mod Ids
+pub mod Buckets
+pub mod Tables
+pub mod Searching
