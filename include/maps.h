@@ -1,13 +1,13 @@
-/* The calls of the MAPS planner: planning a sheet, and writing a sheet from records.
+/* The calls of the MAPS planner: planning a sheet, writing a sheet from records, and importing a BLIF model as a sheet.
  *
- * maps_plan reads one sheet and writes one plan; maps_write reads the records of a circuit and writes their sheet. Sheets and plans are as
- * documents 01 and 02 define them.
+ * maps_plan reads one sheet and writes one plan; maps_write reads the records of a circuit and writes their sheet; maps_import reads the text of one
+ * BLIF model and writes its sheet. Sheets, plans and the subset of BLIF are as documents 01 and 02 define them.
  *
- * Promised of both, on every input:
+ * Promised of each, on every input:
  *  - The answer's number is 0 exactly if what is given is accepted and what is to be written fits the buffer. Then it stands at the front of
  *    the buffer, place is its length in bytes, and the bytes of the buffer after it keep their values.
  *  - Otherwise the number is the ground for refusing, place is that ground's place, and no byte of the buffer changes.
- *  - The sheet or the records are only read. Nothing else of the caller's memory is read or written.
+ *  - The sheet, the records or the text are only read. Nothing else of the caller's memory is read or written.
  *
  * Promised of maps_plan:
  *  - It refuses with 1 to 8. If several grounds hold: 1 to 4 at the first number in the sheet that fails, spelling before value; then 5, 6, 7, 8.
@@ -18,10 +18,17 @@
  *    is, from 0; then 8. n, m and operand counts are how many were given, and are judged as the other numbers are.
  *  - Reading the sheet that was written gives the records again, and the records of a sheet that reads give the bytes of that sheet.
  *
- * Asked of the caller: `sheet` of maps_plan and what the records of maps_write point to are readable and the buffer is writable, each in its
- * whole length; the buffer overlaps none of them; and neither the sheet's nor the buffer's pointer is null, also where its length is 0. A buffer of
- * MAPS_PLAN_MOST bytes is long enough for every plan and one of MAPS_SHEET_MOST bytes for every sheet; maps_plan_length and maps_write_length give
- * the length of one plan and of one sheet.
+ * Promised of maps_import:
+ *  - It refuses with 8 to 11. First the caller's numbers and a text longer than MAPS_TEXT_MOST, 11 at place 0; then the first faulty line decides,
+ *    and on one line 9, 10, 11 in that order; then an output without definition, 10 at its line; then 8.
+ *  - The nodes of the sheet are the model's, in the order in which their names are defined, with the outputs marked and without differences: a .names
+ *    is logic, or an input if it reads nothing; a .latch is a box with d = 0 and lat = 1. The d of logic is table_ps / level_ps, rounded up.
+ *  - The sheet reads: maps_plan refuses it with none of 1 to 5.
+ *
+ * Asked of the caller: `sheet` of maps_plan, what the records of maps_write point to and `text` of maps_import are readable and the buffer is
+ * writable, each in its whole length; the buffer overlaps none of them; and neither the sheet's, the text's nor the buffer's pointer is null, also
+ * where its length is 0. A buffer of MAPS_PLAN_MOST bytes is long enough for every plan and one of MAPS_SHEET_MOST bytes for every sheet;
+ * maps_plan_length, maps_write_length and maps_import_length give the length of one plan and of one sheet.
  *
  * The calls have no global state and allocate nothing: several threads may call them at the same time. Give a thread that
  * calls one of them MAPS_STACK bytes of stack.
@@ -45,6 +52,9 @@ extern "C" {
  * and operand count, 2 for lat, 2 for each of 6 operands), 7 for each of 1,024 differences (2 each for u and v, 3 for w). */
 #define MAPS_SHEET_MOST 11785
 
+/* Bytes of the longest text that maps_import takes. */
+#define MAPS_TEXT_MOST 65536
+
 /* Bytes of stack to give a calling thread. It is a bound: a test (tests/tests/stack.rs) reads the frame of each function from the archive, counts
  * a recursive function as often as it can be active at once, adds up the deepest path of calls and holds this number to be no less. */
 #define MAPS_STACK 524288
@@ -66,7 +76,11 @@ enum maps_number {
     MAPS_BYTES_FOLLOW = 5, /* bytes follow the last number; place: the first of them */
     MAPS_NO_CUT = 6,       /* a logic node has no fitting cut; place: the lowest such id */
     MAPS_LATE = 7,         /* no legal labelling within H; place: 0 */
-    MAPS_BUFFER_SHORT = 8  /* the buffer is shorter than what would be written; place: that length */
+    MAPS_BUFFER_SHORT = 8, /* the buffer is shorter than what would be written; place: that length */
+    MAPS_SUBSET = 9,       /* a line outside the subset or a row of wrong width; place: the line, from 1, and of joined lines the first; a missing
+                            * .end: one line past the last */
+    MAPS_NAME = 10,        /* a name read before it is defined, defined twice or put out without definition; place: the line */
+    MAPS_LIMIT = 11        /* a limit; place: the line, 0 for the caller's numbers and for a text longer than MAPS_TEXT_MOST */
 };
 
 /* Plans a sheet into a buffer. */
@@ -152,6 +166,26 @@ static inline struct maps_answer maps_write_length(const struct maps_sheet *reco
     return answer;
 }
 
+/* Imports the BLIF model of a text as a sheet into a buffer. `leaves`, `top` and `horizon` are K, T and H; `table_ps` and `level_ps` are a table's
+ * picoseconds and a level's, both at least 1. 11 is given for more than 256 nodes or none, more than 6 operands, names of more than 31 bytes, d above
+ * T and caller's numbers out of range. */
+struct maps_answer maps_import(const uint8_t *text, size_t text_len, uint32_t leaves, uint32_t top, uint32_t horizon, uint32_t table_ps,
+                               uint32_t level_ps, uint8_t *sheet, size_t sheet_len);
+
+/* Asks for the length of the sheet of a text and writes none: number 0 and, as place, the length in bytes where the text has a sheet, otherwise the
+ * refusal, never 8. `text` may be null where text_len is 0. */
+static inline struct maps_answer maps_import_length(const uint8_t *text, size_t text_len, uint32_t leaves, uint32_t top, uint32_t horizon,
+                                                    uint32_t table_ps, uint32_t level_ps) {
+    const uint8_t no_text = 0;
+    uint8_t no_sheet = 0;
+    struct maps_answer answer =
+        maps_import(text_len == 0 ? &no_text : text, text_len, leaves, top, horizon, table_ps, level_ps, &no_sheet, 0);
+    if (answer.number == MAPS_BUFFER_SHORT) {
+        answer.number = MAPS_ACCEPTED;
+    }
+    return answer;
+}
+
 /* 1 if the number is 0: the plan or sheet is written or, where its length alone was asked, there is one. Otherwise 0. */
 static inline int maps_accepted(struct maps_answer answer) { return answer.number == MAPS_ACCEPTED; }
 
@@ -167,6 +201,9 @@ static inline const char *maps_text(uint64_t number) {
     case MAPS_NO_CUT: return "a logic node has no fitting cut";
     case MAPS_LATE: return "no legal labelling within H";
     case MAPS_BUFFER_SHORT: return "the buffer is shorter than what would be written";
+    case MAPS_SUBSET: return "a line outside the subset or a row of wrong width";
+    case MAPS_NAME: return "a name read before it is defined, defined twice or put out without definition";
+    case MAPS_LIMIT: return "a limit (256 nodes, 6 operands, names of 31 bytes, d above T, caller's numbers out of range)";
     default: return "no number of the documents";
     }
 }

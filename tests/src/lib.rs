@@ -1,4 +1,5 @@
-//! An independent account of documents 01 and 02 in Rust, written from the documents, and made-up sheets to try the library on.
+//! An independent account of documents 01 and 02 in Rust, written from the documents, and made-up sheets and texts to try the library on.
+pub mod blif;
 pub mod buffer;
 pub mod cones;
 pub mod header;
@@ -6,6 +7,7 @@ pub mod labels;
 pub mod library;
 pub mod limits;
 pub mod made;
+pub mod models;
 pub mod plan;
 pub mod planner;
 pub mod random;

@@ -1,4 +1,8 @@
 //! The proved library, called through its C interface.
+#[cfg(planner)]
+use crate::blif::Caller;
+#[cfg(planner)]
+use crate::buffer::{after, lent};
 use crate::reader::Sheet;
 #[cfg(planner)]
 use crate::writer::Rows;
@@ -30,6 +34,17 @@ extern "C" {
         operands_len: usize,
         differences: *const u32,
         differences_len: usize,
+        sheet: *mut u8,
+        sheet_len: usize,
+    ) -> Answer;
+    fn maps_import(
+        text: *const u8,
+        text_len: usize,
+        leaves: u32,
+        top: u32,
+        horizon: u32,
+        table_ps: u32,
+        level_ps: u32,
         sheet: *mut u8,
         sheet_len: usize,
     ) -> Answer;
@@ -116,4 +131,23 @@ pub fn write(rows: &Rows, buffer: &mut [u8]) -> Answer {
             buffer.len(),
         )
     }
+}
+
+/// Imports a BLIF text into a buffer.
+#[cfg(planner)]
+pub fn import(text: &[u8], caller: &Caller, buffer: &mut [u8]) -> Answer {
+    let Caller { leaves, top, horizon, table, level } = *caller;
+    unsafe { maps_import(text.as_ptr(), text.len(), leaves, top, horizon, table, level, buffer.as_mut_ptr(), buffer.len()) }
+}
+
+/// Imports a BLIF text into a buffer of `room` bytes. Gives the answer and what was written; every other byte keeps its value, of the buffer and on
+/// both sides of it, and so do all of them on a refusal.
+#[cfg(planner)]
+pub fn imported(text: &[u8], caller: &Caller, room: usize) -> (Answer, Vec<u8>) {
+    let (answer, buffer) = lent(room, |buffer| import(text, caller, buffer));
+    let length = if answer.number == 0 { answer.place as usize } else { 0 };
+    assert!(length <= room, "{length} bytes written into {room}: {answer:?}");
+    let written = buffer[..length].to_vec();
+    assert!(buffer == after(&written, room), "bytes that keep their values in a buffer of {room}: {answer:?}");
+    (answer, written)
 }

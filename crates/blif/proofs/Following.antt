@@ -12,6 +12,7 @@ use Rattle.maps.specs.Sheet.{input, box, latencyOf}
 use Rattle.maps.specs.Limits.{rangesOf}
 use Rattle.maps.specs.WellFormed.{Within, codeOf}
 use Rattle.maps.proofs.Over.{and-true}
+use Rattle.maps.proofs.Member.{All-join}
 use Rattle.blif.specs.Words.{Word, Line}
 use Rattle.blif.specs.Subset.{Stage, first, head, cover, latched, last, Statement, model, inputs, outputs, names, row, latch, end, outside, statement, stageAfter}
 use Rattle.blif.specs.Names.{Definition, definition, kindOf, defined, namesOf, readsOf, has, fresh, resolves, outputNames}
@@ -48,10 +49,6 @@ well-defined row e = tt
 well-defined (latch i o) e = (well-latch i o, tt)
 well-defined end e = tt
 well-defined outside e = tt
-
-all-both : {A : Type 0} (P : A → Type 0) (xs ys : List A) → All P xs → All P ys → All P (xs ++ ys)
-all-both P [] ys h k = k
-all-both P (x ∷ xs) ys h k = (h .0, all-both P xs ys (h .1) k)
 
 -- after `.end` there is a node
 abbrev pub Full : Stage → Model → Type 0
@@ -129,7 +126,7 @@ sound-next at M n s h e =
     record {
       few = rw (length-append (M .definitions) (defined s)) (f .count);
       full = full-next at M n s (h .full) (f .some);
-      well = all-both WellDefinition (M .definitions) (defined s) (h .well) (well-defined s (f .operands));
+      well = All-join WellDefinition (M .definitions) (defined s) (h .well) (well-defined s (f .operands));
       ordered = ordered-more (M .definitions) (defined s) (h .ordered) (f .reads);
       once = rw (map-append (λ (d : Definition). d .name) (M .definitions) (defined s)) (once-more (namesOf (M .definitions)) (namesOf (defined s)) (h .once) (f .fresh));
     }

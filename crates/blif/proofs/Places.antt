@@ -2,11 +2,11 @@
 use Prim.Native.Nat.{ℕ, zero, suc, _+_, _≤_, _<_}
 use mathlib.Core.Path.{_≡_, refl, sym, subst}
 use mathlib.Core.Bool.{Bool, true, false, _&&_, not}
-use mathlib.Core.List.{List, [], _∷_, _++_, map, List·Memᴰ, List·Memᴰ·head}
+use mathlib.Core.List.{List, [], _∷_, map, List·Memᴰ, List·Memᴰ·head}
 use native.Mathlib.Omega.{arith}
 use lib.ListN.{length}
 use Rattle.maps.specs.Lists.{All}
-use Rattle.maps.proofs.Member.{All-map, All-at, keep-out}
+use Rattle.maps.proofs.Member.{All-map, All-at, All-join, keep-out}
 use Rattle.blif.specs.Lines.{lines, Part, ends, joins, part, Joined, joinedTo, joinedAfter, joined}
 use Rattle.blif.specs.Words.{Word, words, Line, withWords, wordLines, linesOf}
 use Rattle.blif.specs.Subset.{Stage, first, head, cover, latched, last, Statement, model, inputs, outputs, names, row, latch, end, outside, statement, stageAfter}
@@ -73,10 +73,6 @@ data Placed (m : ℕ) : Found → Type 0 where
   model-at : {M : Model} → All (λ (o : OutputName). In 1 m (o .line)) (M .outputs) → Placed m (found M)
   fault-at : {k p : ℕ} → 1 ≤ p → p ≤ m + 1 → Placed m (faulty k p)
 
-both : {A : Type 0} (P : A → Type 0) (xs ys : List A) → All P xs → All P ys → All P (xs ++ ys)
-both P [] ys h k = k
-both P (x ∷ xs) ys h k = (h .0, both P xs ys (h .1) k)
-
 follow-placed : (m : ℕ) (at : Stage) (M : Model) (ls : List Line) → All (λ (l : Line). In 1 m (l .number)) ls → All (λ (o : OutputName). In 1 m (o .line)) (M .outputs) → Placed m (modelFrom (m + 1) at M ls)
 unfolding modelFrom
 follow-placed m at M [] h g = go at
@@ -91,7 +87,7 @@ follow-placed m at M (l ∷ ls) h g =
     let s = statement at (l .words) in
     judge (fault M s) (modelFrom (m + 1) (stageAfter at s) (extend M (l .number) s) ls)
     (follow-placed m (stageAfter at s) (extend M (l .number) s) ls (h .1)
-    (both (λ (o : OutputName). In 1 m (o .line)) (M .outputs) (outputNames (l .number) s) g (asks-here 1 m (l .number) s (h .0))))
+    (All-join (λ (o : OutputName). In 1 m (o .line)) (M .outputs) (outputNames (l .number) s) g (asks-here 1 m (l .number) s (h .0))))
   where
     judge : (k : ℕ) (rest : Found) → Placed m rest → Placed m (judged k (l .number) rest)
     judge zero rest r = r

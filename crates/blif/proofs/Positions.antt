@@ -71,17 +71,17 @@ unfolding from
 from-end stop s at l = rw (drop-of-length-le s l) refl
 
 -- the number of the line at a position
-tens-append : (a b : List ℕ) → newlines (a ++ b) ≡ newlines a + newlines b
+newlines-append : (a b : List ℕ) → newlines (a ++ b) ≡ newlines a + newlines b
 unfolding newlines
-tens-append [] b = omega arith
-tens-append (x ∷ a) b = go (eqb x 10) (tens-append a b)
+newlines-append [] b = omega arith
+newlines-append (x ∷ a) b = go (eqb x 10) (newlines-append a b)
   where
     go : (y : Bool) → newlines (a ++ b) ≡ newlines a + newlines b → cond y (suc (newlines (a ++ b))) (newlines (a ++ b)) ≡ cond y (suc (newlines a)) (newlines a) + newlines b
     go true e = omega (arith, e)
     go false e = e
 
-pub tens-at : (s : List ℕ) (at : ℕ) → newlines (take at s) + newlines (drop at s) ≡ newlines s
-tens-at s at = sym (tens-append (take at s) (drop at s)) ∙ ap newlines (take-append-drop at s)
+pub newlines-at : (s : List ℕ) (at : ℕ) → newlines (take at s) + newlines (drop at s) ≡ newlines s
+newlines-at s at = sym (newlines-append (take at s) (drop at s)) ∙ ap newlines (take-append-drop at s)
 
 -- The lines with words from position `at` on, where a line begins: that line's words, and the lines from `next` on, where `next` is after it.
 -- The number of a line is 1 and the bytes 10 before it.
@@ -101,7 +101,7 @@ lines-at s at next l e =
     f = subst (FirstLine (1 + newlines (take at s))) (sym (at-cons s at l)) (first-line (1 + newlines (take at s)) (byteAt s at) (drop (at + 1) s))
 
     counts : 1 + newlines (take at s) + f .count ≡ 1 + newlines (take next s)
-    counts = omega (arith, tens-at s at, tens-at s next, f .counted, ap newlines e)
+    counts = omega (arith, newlines-at s at, newlines-at s next, f .counted, ap newlines e)
 
 pub lines-end : (s : List ℕ) (at n : ℕ) → length s ≤ at → wordLines (joined n (lines (drop at s))) ≡ []
 unfolding wordLines joined lines

@@ -57,10 +57,10 @@ past-lines (b ∷ t) l ls e = go (eqb b 10) (lines t) refl e (past-lines t)
     go false (k ∷ ks) f q rec = let z : ks ≡ ls = cc in rec k ks f ∙ z
 
 -- one byte 10 is passed, or the text is at its end
-past-tens : (t : List ℕ) → (past t ≡ []) ⊎ (newlines t ≡ suc (newlines (past t)))
+past-newlines : (t : List ℕ) → (past t ≡ []) ⊎ (newlines t ≡ suc (newlines (past t)))
 unfolding newlines past
-past-tens [] = inl refl
-past-tens (b ∷ t) = go (eqb b 10) (past-tens t)
+past-newlines [] = inl refl
+past-newlines (b ∷ t) = go (eqb b 10) (past-newlines t)
   where
     go : (x : Bool) → (past t ≡ []) ⊎ (newlines t ≡ suc (newlines (past t))) → (cond x t (past t) ≡ []) ⊎ (cond x (suc (newlines t)) (newlines t) ≡ suc (newlines (cond x t (past t))))
     go true r = inr refl
@@ -103,9 +103,9 @@ joined-more : (n b c : ℕ) (t l : List ℕ) (ls : List (List ℕ)) → lines (c
 joined-more n b c t l ls e f g = ap (joined n) (lines-more b c t l ls e f) ∙ part-more n b l ls g ∙ ap (λ ks. more b (joined n ks)) (sym e)
 
 -- the functions at a byte that neither joins nor stops
-tens-more : (b : ℕ) (t : List ℕ) → eqb b 10 ≡ false → newlines (b ∷ t) ≡ newlines t
+newlines-more : (b : ℕ) (t : List ℕ) → eqb b 10 ≡ false → newlines (b ∷ t) ≡ newlines t
 unfolding newlines
-tens-more b t e = rw e refl
+newlines-more b t e = rw e refl
 
 pub until-more : (stop : ℕ → Bool) (b c : ℕ) (t : List ℕ) → (eqb b 92 && eqb c 10) ≡ false → stop b ≡ false → until stop (b ∷ c ∷ t) ≡ b ∷ until stop (c ∷ t)
 unfolding until
@@ -123,7 +123,7 @@ past-more b c t e f = ap past (from-more endsLine b c t e f)
 plain : (n b c : ℕ) (t : List ℕ) → eqb b 10 ≡ false → endsLine b ≡ false → (eqb b 92 && eqb c 10) ≡ false → (l : List ℕ) (ls : List (List ℕ)) → lines (c ∷ t) ≡ l ∷ ls → part (b ∷ l) ≡ after b (part l) → FirstLine n (c ∷ t) → FirstLine n (b ∷ c ∷ t)
 plain n b c t e10 es ej l ls el ep r = record {
   count = r .count;
-  counted = tens-more b (c ∷ t) e10 ∙ r .counted ∙ ap (λ x. r .count + newlines x) (sym (past-more b c t ej es));
+  counted = newlines-more b (c ∷ t) e10 ∙ r .counted ∙ ap (λ x. r .count + newlines x) (sym (past-more b c t ej es));
   law =
       joined-more n b c t l ls el e10 ep ∙ ap (more b) (r .law)
       ∙ ap (λ x. numbered n x ∷ joined (n + r .count) (lines (pastLine (c ∷ t)))) (sym (until-more endsLine b c t ej es))
@@ -149,7 +149,7 @@ broken n c t = record { count = 1; counted = omega arith; law = ap (λ k. number
 -- the line ends at a comment
 commented : (n c : ℕ) (t : List ℕ) → FirstLine n (35 ∷ c ∷ t)
 unfolding joined lines until pastLine newlines
-commented n c t = go (past-tens (c ∷ t)) (lines-some c t)
+commented n c t = go (past-newlines (c ∷ t)) (lines-some c t)
   where
     hashed : (l : List ℕ) → part (35 ∷ l) ≡ ends []
     hashed [] = refl

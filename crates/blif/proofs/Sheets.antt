@@ -7,7 +7,7 @@ use native.Mathlib.Omega.{arith}
 use native.Mathlib.Nat.{not-suc-le-zero}
 use lib.Dec.{leb}
 use lib.ListN.{length, getD, length-map}
-use borrow.Author.Tests.{leb-true}
+use borrow.Author.Tests.{leb-true, le-leb}
 use Rattle.maps.specs.Lists.{All, equal}
 use Rattle.maps.specs.Sheet.{Sheet, Kind, input, logic, box, Node, noNode, size, isLogic}
 use Rattle.maps.specs.Limits.{Range, leavesRange, topRange, horizonRange, rangesOf}
@@ -21,6 +21,7 @@ use Rattle.blif.specs.Subset.{first, last}
 use Rattle.blif.specs.Names.{Definition, namesOf, OutputName, has}
 use Rattle.blif.specs.Limits.{Caller, delay, callable, short, textMost}
 use Rattle.blif.specs.Model.{Model, empty, Found, found, faulty, modelOf}
+use Rattle.blif.specs.Grounds.{Callable}
 use Rattle.blif.specs.Import.{idOf, isOutput, nodeOf, sheetOf, undefined, Imported, imported, refused, withOutputs, ofFound, importSheet}
 use Rattle.blif.specs.Relations.{statements, noDefinition, StandsFor, Pairs, IsOutput, DefinedNode, SheetOfText}
 use Rattle.blif.proofs.Rounding.{rounded-up, delay-some}
@@ -65,19 +66,14 @@ mark-sound os w e = let r = any-found (λ (o : OutputName). equal w (o .name)) o
 mark-complete : (os : List OutputName) (w : Word) → IsOutput os w → isOutput os w ≡ true
 mark-complete os w h = any-of (λ (o : OutputName). equal w (o .name)) (h .standing) (equal-of w (h .output .name) (h .named))
 
--- the caller's numbers
-pub record Callable (c : Caller) : Type 0 where
-  pub leaves : Within leavesRange (c .leaves)
-  pub top : Within topRange (c .top)
-  pub horizon : Within horizonRange (c .horizon)
-  pub table : 1 ≤ c .table
-  pub level : 1 ≤ c .level
-  pub delay : delay c ≤ c .top
-
+-- the test of the caller's numbers
 within : (r : Range) (x : ℕ) → passes (among r) x ≡ true → Within r x
 within r x e =
     let a = and-true (leb (r .low) x) (leb x (r .high)) e in
     record { least = leb-true (r .low) x (a .0); most = leb-true x (r .high) (a .1) }
+
+passes-of : (r : Range) (x : ℕ) → Within r x → passes (among r) x ≡ true
+passes-of r x h = rw (le-leb (r .low) x (h .least), le-leb x (r .high) (h .most)) refl
 
 pub callable-true : (c : Caller) → callable c ≡ true → Callable c
 callable-true c e =
@@ -97,6 +93,17 @@ callable-true c e =
       level = leb-true 1 (c .level) (four .1);
       delay = leb-true (delay c) (c .top) (five .1);
     }
+
+pub callable-of : (c : Caller) → Callable c → callable c ≡ true
+callable-of c h =
+    rw (
+      passes-of leavesRange (c .leaves) (h .leaves),
+      passes-of topRange (c .top) (h .top),
+      passes-of horizonRange (c .horizon) (h .horizon),
+      le-leb 1 (c .table) (h .table),
+      le-leb 1 (c .level) (h .level),
+      le-leb (delay c) (c .top) (h .delay),
+    ) refl
 
 -- how a sheet is imported: the caller's numbers hold, the text is short enough, its model is found and all its outputs are defined
 pub record Import (text : List ℕ) (c : Caller) (S : Sheet) : Type 0 where

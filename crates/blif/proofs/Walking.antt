@@ -4,7 +4,12 @@ use mathlib.Core.Path.{_≡_, refl, sym, ap, _∙_}
 use mathlib.Core.Bool.{Bool, true, false, cond}
 use mathlib.Core.List.{List, [], _∷_}
 use native.Mathlib.Omega.{arith}
-use lib.ListN.{length, drop, length-drop}
+use native.Mathlib.Numerals.{add-one}
+use lib.ListN.{length, getD, drop, length-drop, drop-of-length-le}
+use lib.Dec.{ltb}
+use lib.Seq.{drop-cons}
+use borrow.Author.Tests.{ltb-true, ltb-false}
+use Rattle.blif.proofs.Ordering.{clash}
 use Rattle.maps.specs.Number.{byteAt}
 use Rattle.blif.specs.Lines.{onto}
 use Rattle.blif.specs.Words.{Word, blank, ending, words}
@@ -48,6 +53,14 @@ words-more s at first rest e l f = go (atLineEnd (drop first s)) refl
     go true h = absurd (omega (arith, l, ap (length {A = Word}) (words-none s at first e h)))
     go false h = words-some s at first rest e h f
 
+-- a position where a line does not end is inside the text
+inside : (s : List ℕ) (at : ℕ) → atLineEnd (drop at s) ≡ false → at < length s
+inside s at h = go (ltb at (length s)) refl
+  where
+    go : (b : Bool) → ltb at (length s) ≡ b → at < length s
+    go true e = ltb-true at (length s) e
+    go false e = clash (atLineEnd (drop at s)) (ap atLineEnd (drop-of-length-le s (ltb-false at (length s) e))) h
+
 -- a rest that begins where it stops is found again
 pub from-again : (stop : ℕ → Bool) (t : List ℕ) → Stopped stop t → from stop t ≡ t
 unfolding from
@@ -60,6 +73,31 @@ past-blanks : (t : List ℕ) → pastLine (from endsBlanks t) ≡ pastLine t
 past-blanks t =
     sym (next-word-past (from endsBlanks t)) ∙ ap (λ u. pastLine (from endsWord u)) (from-again endsBlanks (from endsBlanks t) (from-stops endsBlanks t))
     ∙ next-word-past t
+
+-- the first word from a position on begins after the blanks there
+pub first-word : (s : List ℕ) (at first : ℕ) → drop first s ≡ from endsBlanks (drop at s) → 0 < length (wordsAt s at)
+    → (nameAt s first ≡ getD (wordsAt s at) 0 []) × (first < length s)
+first-word s at first e l = go (atLineEnd (drop first s)) refl (words-turn s at first e)
+  where
+    go : (b : Bool) → atLineEnd (drop first s) ≡ b → wordsAt s at ≡ cond b [] (nameAt s first ∷ words (until endsLine (from endsWord (drop first s))))
+        → (nameAt s first ≡ getD (wordsAt s at) 0 []) × (first < length s)
+    go true h q = absurd (omega (arith, l, ap (length {A = Word}) q))
+    go false h q = (sym (ap (λ ws. getD ws 0 []) q), inside s first h)
+
+-- The walk of a line from word to word: at the i-th of the words from `start` on, that word stands at `first`, and the words after it at `rest`.
+pub word-here : (s : List ℕ) (start at first i : ℕ) → wordsAt s at ≡ drop i (wordsAt s start) → i < length (wordsAt s start) → drop first s ≡ from endsBlanks (drop at s)
+    → (nameAt s first ≡ getD (wordsAt s start) i []) × (first < length s)
+word-here s start at first i e l f =
+    let d : wordsAt s at ≡ getD (wordsAt s start) i [] ∷ drop (suc i) (wordsAt s start) = e ∙ drop-cons (wordsAt s start) i [] l in
+    let w = first-word s at first f (omega (arith, ap length d)) in
+    (w .0 ∙ ap (λ (ws : List Word). getD ws 0 []) d, w .1)
+
+pub words-after : (s : List ℕ) (start at first rest i : ℕ) → wordsAt s at ≡ drop i (wordsAt s start) → i < length (wordsAt s start)
+    → drop first s ≡ from endsBlanks (drop at s) → drop rest s ≡ from endsWord (drop first s) → wordsAt s rest ≡ drop (i + 1) (wordsAt s start)
+words-after s start at first rest i e l f g =
+    let d : wordsAt s at ≡ getD (wordsAt s start) i [] ∷ drop (suc i) (wordsAt s start) = e ∙ drop-cons (wordsAt s start) i [] l in
+    let t : wordsAt s at ≡ nameAt s first ∷ wordsAt s rest = words-more s at first rest f (omega (arith, ap length d)) g in
+    ap (λ (ws : List Word). drop 1 ws) (sym t ∙ d) ∙ ap (λ (k : ℕ). drop k (wordsAt s start)) (sym (add-one i))
 
 pub line-past : (s : List ℕ) (at first rest : ℕ) → drop first s ≡ from endsBlanks (drop at s) → drop rest s ≡ from endsWord (drop first s) → (pastLine (drop rest s) ≡ pastLine (drop at s)) × (pastLine (drop first s) ≡ pastLine (drop at s))
 line-past s at first rest e f =

@@ -1,4 +1,4 @@
--- Document 02, U3: the lines of the subset as they are written, and where they may stand. `proofs/Grammars.antt`: `said` finds exactly these.
+-- Document 02, U3: the lines of the subset as they are written, and where they may stand. `proofs/Grammars.antt`: `statement` finds exactly these.
 use Prim.Native.Nat.{ℕ, zero, suc}
 use mathlib.Core.Path.{_≡_}
 use mathlib.Core.Bool.{true}

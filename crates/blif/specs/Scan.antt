@@ -60,7 +60,7 @@ abbrev pub wordsAt : (text : List ℕ) → (at : ℕ) → List Word
 unfolding until words
 wordsAt text at = words (until endsLine (drop at text))
 
--- how many bytes are 10: the line at position `at` of a text has the number 1 + tens (take at text)
+-- how many bytes are 10: the line at position `at` of a text has the number 1 + newlines (take at text)
 unfoldable pub newlines : List ℕ → ℕ
 newlines [] = 0
 newlines (b ∷ rest) = cond (eqb b newline) (suc (newlines rest)) (newlines rest)

@@ -1,3 +1,1 @@
-pub mod RowLaws
-pub mod Keeping
 pub mod Turning

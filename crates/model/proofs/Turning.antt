@@ -15,7 +15,7 @@ use Rattle.blif.specs.Model.{Model, Found, faulty, empty, extend, fault, judged
 use Rattle.blif.proofs.Positions.{lines-at, lines-end, lines-start}
 use Rattle.subset.specs.declared.Stage.{Stage}
 use Rattle.subset.specs.Meant.{stageMeant}
-use Rattle.model.specs.Kept.{Kept}
+use Rattle.definitions.specs.Kept.{Kept}
 use Rattle.model.specs.Turns.{lineThen, Turned, LinesRead}
 use Rattle.model.specs.declared.State.{State}
 use Rattle.model.specs.declared.Turn.the-variants.{Next, Refused}

@@ -10,7 +10,7 @@ use Rattle.blif.specs.Scan.{newlines, wordsAt}
 use Rattle.blif.specs.Model.{Model, Found, found, faulty, ended, modelFrom, modelOf}
 use Rattle.subset.specs.declared.Stage.{Stage}
 use Rattle.subset.specs.Meant.{stageMeant}
-use Rattle.model.specs.Kept.{Kept}
+use Rattle.definitions.specs.Kept.{Kept}
 use Rattle.model.specs.declared.Turn.{Turn}
 use Rattle.model.specs.declared.Turn.the-variants.{Next, Refused}
 use Rattle.model.specs.declared.Model as Code

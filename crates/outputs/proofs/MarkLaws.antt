@@ -1,31 +1,27 @@
--- The marks of the nodes that are put out: one name marked in the rows, the names that are not defined, and which lines name outputs.
+-- One name marked in the rows, and which lines name outputs.
 use Prim.Native.Nat.{ℕ, zero, suc, _+_, _*_, _<_}
 use mathlib.Core.Path.{_≡_, refl, sym, subst, ap, _∙_}
-use mathlib.Core.Bool.{Bool, true, false, cond, _&&_, _||_, not, or-false, or-assoc}
+use mathlib.Core.Bool.{Bool, true, false, cond, _&&_, _||_, not, or-false}
 use mathlib.Core.List.{List, [], _∷_, _++_, map, append-nil, append-assoc}
 use native.Mathlib.Omega.{arith}
 use lib.Dec.{eqb}
-use lib.ListN.{length, getD, take, set, length-map}
-use lib.Seq.{take-set-lt}
+use lib.ListN.{length, getD, set}
 use Rattle.maps.specs.Lists.{All, equal, concat}
 use Rattle.maps.specs.Sheet.{isLogic, latencyOf}
 use Rattle.maps.specs.WellFormed.{codeOf}
 use Rattle.maps.proofs.Over.{same-test}
-use Rattle.maps.proofs.Member.{All-map, All-ids, everywhere, keep-append, or-right}
+use Rattle.maps.proofs.Member.{All-map, All-ids, everywhere, or-right}
 use Rattle.blif.specs.Lines.{lines}
 use Rattle.blif.specs.Words.{Word, Line, bytesOf, is, linesOf}
 use Rattle.blif.specs.Subset.{Stage, first, head, cover, latched, last, Statement, inputs, outputs, row, latch, outside, modelLine, namesLine, latchLine, endLine, initial, bit, literals, rowLine, bodyLine, statement, stageAfter}
 use Rattle.blif.specs.Names.{Definition, defined, namesOf, OutputName, outputNames, has, resolves}
 use Rattle.blif.specs.Limits.{withinLimits}
-use Rattle.blif.specs.Model.{Model, empty, extend, isOutside, fault, found, modelFrom, modelOf}
-use Rattle.blif.specs.Faults.{Faultless, done, line, Ending, with-model}
-use Rattle.blif.specs.Import.{idOf, isOutput, undefined}
+use Rattle.blif.specs.Model.{Model, empty, extend, isOutside, fault, Found, found, ended, judged, modelFrom, modelOf}
+use Rattle.blif.specs.Import.{idOf}
 use Rattle.blif.proofs.Naming.{equal-true, equal-of}
 use Rattle.blif.proofs.Ordering.{Once}
-use Rattle.blif.proofs.FirstFaults.{follow-ends}
-use Rattle.model.specs.Rows.{rowsFrom}
-use Rattle.model.proofs.RowLaws.{id-below}
-use Rattle.outputs.specs.ByWord.{outputsOfWords, outputsOfLine, undefinedOf}
+use Rattle.definitions.specs.Rows.{rowsFrom}
+use Rattle.outputs.specs.ByWord.{outputsNamed, outputsOfWords, outputsOfLine}
 
 equal-comm : (a b : List ℕ) → equal a b ≡ equal b a
 equal-comm a b = same-test (equal a b) (equal b a) (λ e. equal-of b a (sym (equal-true a b e))) (λ e. equal-of a b (sym (equal-true b a e)))
@@ -82,40 +78,6 @@ module _ (d : ℕ) where
             ap (λ (i : ℕ). set (rowsFrom d m e (x ∷ xs)) i 1) p
             ∙ ap (withRow next x (m (x .name))) (rec h)
             ∙ ap (λ (b : Bool). withRow next x b (rowsFrom d (λ v. m v || equal v w) next xs)) (sym (ap (λ (b : Bool). m (x .name) || b) (equal-comm (x .name) w ∙ q) ∙ or-false (m (x .name))))
-
--- outputs one by one
-pub outputs-none : (w : Word) → isOutput [] w ≡ false
-outputs-none w = refl
-
-pub outputs-grow : (os : List OutputName) (o : OutputName) (w : Word) → isOutput (os ++ (o ∷ [])) w ≡ (isOutput os w || equal w (o .name))
-outputs-grow [] o w = or-false (equal w (o .name))
-outputs-grow (p ∷ os) o w = ap (λ (b : Bool). equal w (p .name) || b) (outputs-grow os o w) ∙ sym (or-assoc (equal w (p .name)) (isOutput os w) (equal w (o .name)))
-
--- one more output in the rows at the front of an array: the mark of its node is stored
-pub mark-output : (d e : ℕ) (xs : List Definition) (os : List OutputName) (o : OutputName) (nodes : List ℕ) (p : ℕ)
-    → Once (namesOf xs) → has (namesOf xs) (o .name) ≡ true → p ≡ 5 * idOf (namesOf xs) (o .name) + 1
-    → take (5 * length xs) nodes ≡ rowsFrom d (isOutput os) e xs → take (5 * length xs) (set nodes p 1) ≡ rowsFrom d (isOutput (os ++ (o ∷ []))) e xs
-mark-output d e xs os o nodes p n h i r =
-    let l : p < 5 * length xs = omega (arith, i, id-below (namesOf xs) (o .name) h, length-map xs (λ (d : Definition). d .name)) in
-    take-set-lt (5 * length xs) nodes p 1 l
-    ∙ ap (λ (rows : List ℕ). set rows p 1) r
-    ∙ ap (λ (k : ℕ). set (rowsFrom d (isOutput os) e xs) k 1) i
-    ∙ mark-row d (isOutput os) (o .name) e xs n h
-    ∙ rows-same d (λ v. isOutput os v || equal v (o .name)) (isOutput (os ++ (o ∷ []))) e xs (λ w. sym (outputs-grow os o w))
-
--- The names that are not defined, as the outputs are gone over one by one: a first such name stands in front of all.
-module _ (ns : List Word) where
-  pub undefined-append : (os ps : List OutputName) → undefinedOf ns (os ++ ps) ≡ undefinedOf ns os ++ undefinedOf ns ps
-  undefined-append os ps = keep-append (λ (o : OutputName). not (has ns (o .name))) os ps
-
-  pub undefined-none : (os : List OutputName) (o : OutputName) → undefinedOf ns os ≡ [] → has ns (o .name) ≡ true → undefinedOf ns (os ++ (o ∷ [])) ≡ []
-  undefined-none os o e h = undefined-append os (o ∷ []) ∙ rw (e, h) refl
-
-  pub undefined-first : (os ps : List OutputName) (o : OutputName) → undefinedOf ns os ≡ [] → has ns (o .name) ≡ false → undefinedOf ns (os ++ (o ∷ ps)) ≡ o ∷ undefinedOf ns ps
-  undefined-first os ps o e h = undefined-append os (o ∷ ps) ∙ rw (e, h) refl
-
-pub undefined-is : (M : Model) → undefined M ≡ undefinedOf (namesOf (M .definitions)) (M .outputs)
-undefined-is M = refl
 
 clash : {A : Type 0} (b : Bool) → b ≡ true → b ≡ false → A
 clash b t f = let z : _≡_ {A = ℕ} 0 1 = cc in absurd (omega arith)
@@ -200,7 +162,7 @@ module _ (n : ℕ) where
 
   -- a line that begins with `.outputs` names the words after it, or stands outside the subset
   own-word : (at : Stage) (ws : List Word) → isOutside (statement at (bytesOf ".outputs" ∷ ws)) ≡ false
-      → outputNames n (statement at (bytesOf ".outputs" ∷ ws)) ≡ map (λ o. record { line = n; name = o }) ws
+      → outputNames n (statement at (bytesOf ".outputs" ∷ ws)) ≡ outputsNamed n ws
   unfolding statement
   own-word first ws e = clash true refl e
   own-word head ws e = refl
@@ -213,7 +175,7 @@ module _ (n : ℕ) where
   line-outputs at [] e = refl
   line-outputs at (w ∷ ws) e = go (is ".outputs" w) refl
     where
-      go : (b : Bool) → is ".outputs" w ≡ b → outputNames n (statement at (w ∷ ws)) ≡ cond b (map (λ o. record { line = n; name = o }) ws) []
+      go : (b : Bool) → is ".outputs" w ≡ b → outputNames n (statement at (w ∷ ws)) ≡ outputsNamed n (cond b ws [])
       go true q =
           let p = equal-true w (bytesOf ".outputs") q in
           ap (λ (v : Word). outputNames n (statement at (v ∷ ws))) p ∙ own-word at ws (subst (λ (v : Word). isOutside (statement at (v ∷ ws)) ≡ false) p e)
@@ -227,22 +189,30 @@ inside M s e = go (isOutside s) (cond (not (resolves (namesOf (M .definitions)) 
     go true k q = absurd (omega (arith, q))
     go false k q = refl
 
--- In lines without a fault the outputs are named by exactly those whose first word is `.outputs`.
-pub outputs-of-lines : (at to : Stage) (M N : Model) (ls : List Line) → Faultless at M ls to N → N .outputs ≡ M .outputs ++ concat (map outputsOfLine ls)
-outputs-of-lines at to M N [] done = sym (append-nil (M .outputs))
-outputs-of-lines at to M N (l ∷ ls) (line e h) =
-    let s = statement at (l .words) in
-    outputs-of-lines (stageAfter at s) to (extend M (l .number) s) N ls h
-    ∙ append-assoc (M .outputs) (outputNames (l .number) s) (concat (map outputsOfLine ls))
-    ∙ ap (λ (os : List OutputName). M .outputs ++ (os ++ concat (map outputsOfLine ls))) (line-outputs (l .number) at (l .words) (inside M s e))
+-- where the lines end in a model, they end in the one so far, and a line in front has no fault
+ended-found : (past : ℕ) (at : Stage) (M N : Model) → ended past at M ≡ found N → M ≡ N
+ended-found past first M N e = let z : _≡_ {A = ℕ} 0 1 = cc in absurd (omega arith)
+ended-found past head M N e = let z : _≡_ {A = ℕ} 0 1 = cc in absurd (omega arith)
+ended-found past (cover k) M N e = let z : _≡_ {A = ℕ} 0 1 = cc in absurd (omega arith)
+ended-found past latched M N e = let z : _≡_ {A = ℕ} 0 1 = cc in absurd (omega arith)
+ended-found past last M N e = cc
 
--- so where a model is found, and in a text
+judged-found : (k place : ℕ) (f : Found) (N : Model) → judged k place f ≡ found N → (k ≡ 0) × (f ≡ found N)
+judged-found zero place f N e = (refl, e)
+judged-found (suc k) place f N e = let z : _≡_ {A = ℕ} 0 1 = cc in absurd (omega arith)
+
+-- In lines that end in a model the outputs are named by exactly those whose first word is `.outputs`.
 pub outputs-by-word : (past : ℕ) (at : Stage) (M : Model) (ls : List Line) (N : Model) → modelFrom past at M ls ≡ found N → N .outputs ≡ M .outputs ++ concat (map outputsOfLine ls)
-outputs-by-word past at M ls N e = go (subst (Ending past at M ls) e (follow-ends past at M ls))
-  where
-    go : Ending past at M ls (found N) → N .outputs ≡ M .outputs ++ concat (map outputsOfLine ls)
-    go (with-model h) = outputs-of-lines at last M N ls h
+unfolding modelFrom
+outputs-by-word past at M [] N e = sym (append-nil (M .outputs) ∙ ap (λ (N : Model). N .outputs) (ended-found past at M N e))
+outputs-by-word past at M (l ∷ ls) N e =
+    let s = statement at (l .words) in
+    let r = judged-found (fault M s) (l .number) (modelFrom past (stageAfter at s) (extend M (l .number) s) ls) N e in
+    outputs-by-word past (stageAfter at s) (extend M (l .number) s) ls N (r .1)
+    ∙ append-assoc (M .outputs) (outputNames (l .number) s) (concat (map outputsOfLine ls))
+    ∙ ap (λ (os : List OutputName). M .outputs ++ (os ++ concat (map outputsOfLine ls))) (line-outputs (l .number) at (l .words) (inside M s (r .0)))
 
+-- so in a text
 pub outputs-of-text : (text : List ℕ) (M : Model) → modelOf text ≡ found M → M .outputs ≡ concat (map outputsOfLine (linesOf text))
 unfolding modelOf
 outputs-of-text text M e = outputs-by-word (length (lines text) + 1) first empty (linesOf text) M e

@@ -6,10 +6,17 @@ use Rattle.maps.specs.Lists.{keep}
 use Rattle.blif.specs.Words.{Word, Line, is}
 use Rattle.blif.specs.Names.{OutputName, has}
 
--- the names after the word `.outputs`, with the number of their line
+-- the words after the word `.outputs`
+abbrev pub outputWords : List Word → List Word
+outputWords [] = []
+outputWords (w ∷ ws) = cond (is ".outputs" w) ws []
+
+-- names put out, with the number of their line
+abbrev pub outputsNamed : (number : ℕ) → List Word → List OutputName
+outputsNamed n ws = map (λ o. record { line = n; name = o }) ws
+
 abbrev pub outputsOfWords : (number : ℕ) → List Word → List OutputName
-outputsOfWords n [] = []
-outputsOfWords n (w ∷ ws) = cond (is ".outputs" w) (map (λ o. record { line = n; name = o }) ws) []
+outputsOfWords n ws = outputsNamed n (outputWords ws)
 
 abbrev pub outputsOfLine : Line → List OutputName
 outputsOfLine l = outputsOfWords (l .number) (l .words)

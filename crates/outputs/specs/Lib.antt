@@ -1,1 +1,2 @@
 pub mod ByWord
+pub mod Marks

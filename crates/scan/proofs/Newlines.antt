@@ -11,7 +11,7 @@ use borrow.Author.Tests.{eq-eqb, ne-eqb, ltb-true, ltb-false}
 use Rattle.maps.specs.Number.{byteAt}
 use Rattle.blif.specs.Lines.{lines}
 use Rattle.blif.specs.Scan.{past, newlines, openEnd}
-use Rattle.blif.proofs.Positions.{at-cons, tens-at, lines-count}
+use Rattle.blif.proofs.Positions.{at-cons, newlines-at, lines-count}
 
 -- the line after a position begins after it
 pub later : {start end next size : ℕ} → start ≤ end → end ≤ next → start < size → (end < size → end < next) → start < next
@@ -41,8 +41,8 @@ module _ (s : List ℕ) (at : ℕ) where
   turn l = go (eqb (byteAt s at) 10) (ap newlines (at-cons s at l))
     where
       go : (b : Bool) → newlines (drop at s) ≡ cond b (suc (newlines (drop (at + 1) s))) (newlines (drop (at + 1) s)) → newlines (take (at + 1) s) ≡ newlines (take at s) + cond b 1 0
-      go true e = omega (arith, e, tens-at s at, tens-at s (at + 1))
-      go false e = omega (arith, e, tens-at s at, tens-at s (at + 1))
+      go true e = omega (arith, e, newlines-at s at, newlines-at s (at + 1))
+      go false e = omega (arith, e, newlines-at s at, newlines-at s (at + 1))
 
   pub one-counted : at < length s → byteAt s at ≡ 10 → newlines (take (at + 1) s) ≡ newlines (take at s) + 1
   one-counted l e = turn l ∙ rw (eq-eqb (byteAt s at) 10 e) refl

@@ -6,7 +6,7 @@ use borrow.Author.Tests.{not-true, not-false}
 use native.Mathlib.Omega.{arith}
 use Rattle.blif.specs.Scan.{nameAt, wordsAt}
 use Rattle.blif.specs.Subset.{bit, rowLine}
-use Rattle.subset.proofs.WordLaws.{first-word}
+use Rattle.blif.proofs.Walking.{first-word}
 use Rattle.subset.proofs.LineLaws.{row-yes, row-no-cover, row-no-bit, row-other}
 use Rattle.subset.proofs.row_line.Statement.{statement}
 use Rattle.subset.proofs.row_line.Tie as tie
@@ -30,7 +30,7 @@ returns-4 : tie.Need-returns-4
 returns-4 c =
     let s = c .before .before .before .before .before .before .before .before in
     let one = sym (s .pre) ∙ c .before .before .before .before .before .if2 .left in
-    let second = first-word (s .args .text .now) (s .args .rest) (c .before .before .after-blanks .result) (c .before .before .after-blanks .ensures .0) (omega (arith, one)) in
+    let second = first-word (s .args .text .now) (s .args .rest) (c .before .before .after-blanks .result) (c .before .before .after-blanks .ensures .0) (omega (arith, one)) .0 in
     let literal = sym (c .before .before .before .before .is-cover .ensures) ∙ not-false _ (c .before .before .before .if3 .left) in
     (row-yes (s .args .inputs) (nameAt (s .args .text .now) (s .args .first)) (wordsAt (s .args .text .now) (s .args .rest)) (c .before .before .before .before .before .before .if1 .left) one literal (sym (ap bit second) ∙ sym (c .before .is-bit .ensures) ∙ c .if4 .taken), tt)
 
@@ -38,7 +38,7 @@ returns-5 : tie.Need-returns-5
 returns-5 c =
     let s = c .before .before .before .before .before .before .before .before in
     let one = sym (s .pre) ∙ c .before .before .before .before .before .if2 .left in
-    let second = first-word (s .args .text .now) (s .args .rest) (c .before .before .after-blanks .result) (c .before .before .after-blanks .ensures .0) (omega (arith, one)) in
+    let second = first-word (s .args .text .now) (s .args .rest) (c .before .before .after-blanks .result) (c .before .before .after-blanks .ensures .0) (omega (arith, one)) .0 in
     let literal = sym (c .before .before .before .before .is-cover .ensures) ∙ not-false _ (c .before .before .before .if3 .left) in
     (row-no-bit (s .args .inputs) (nameAt (s .args .text .now) (s .args .first)) (wordsAt (s .args .text .now) (s .args .rest)) (c .before .before .before .before .before .before .if1 .left) one literal (sym (ap bit second) ∙ sym (c .before .is-bit .ensures) ∙ c .if4 .left), tt)
 

@@ -14,7 +14,7 @@ use Rattle.blif.specs.Names.{Definition, namesOf, readsOf, has, fresh}
 use Rattle.blif.specs.Import.{idOf}
 use Rattle.blif.proofs.Naming.{has-place, id-first}
 use Rattle.blif.proofs.Ordering.{Once, once-none, once-more}
-use Rattle.model.specs.Rows.{rowsFrom}
+use Rattle.definitions.specs.Rows.{rowsFrom}
 
 pub names-append : (xs ys : List Definition) → namesOf (xs ++ ys) ≡ namesOf xs ++ namesOf ys
 names-append xs ys = map-append (λ (d : Definition). d .name) xs ys

@@ -14,7 +14,7 @@ use Rattle.blif.specs.Limits.{withinLimits}
 use Rattle.blif.specs.Import.{idOf}
 use Rattle.records.specs.Rows.{nodePlace}
 use Rattle.names.specs.Table.{namesIn, Listed}
-use Rattle.model.specs.Rows.{rowsFrom, rowOf, idsOf}
+use Rattle.definitions.specs.Rows.{rowsFrom, rowOf, idsOf}
 
 -- the definitions ds of a text: n names and nodes, none of them marked yet, and u operands
 pub record Kept (text : List ℕ) (d : ℕ) (ds : List Definition) (names nodes operands : List ℕ) (n u : ℕ) : Type 0 where

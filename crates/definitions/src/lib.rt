@@ -9,20 +9,22 @@ ghost use Rattle.maps.specs.Limits.{sizeRange, operandsMost};
 ghost use Rattle.maps.specs.Code.{kindMeant};
 ghost use Rattle.blif.specs.Words.{Word};
 ghost use Rattle.blif.specs.Scan.{wordsAt};
-ghost use Rattle.blif.specs.Names.{Definition, definition, namesOf, has, fresh, defined, inputsOf};
+ghost use Rattle.blif.specs.Names.{Definition, definition, kindOf, namesOf, has, fresh, defined, inputsOf};
 ghost use Rattle.blif.specs.Limits.{textMost};
 ghost use Rattle.blif.specs.Import.{idOf};
 ghost use Rattle.records.specs.Rows.{nodePlace};
 ghost use Rattle.names.specs.Table.{namesIn, Listed};
 ghost use Rattle.subset.specs.Meant.{statementMeant, Shaped};
-ghost use Rattle.model.specs.Rows.{rowMeant, rowNumbers};
-ghost use Rattle.model.specs.Kept.{Kept, Added, Lawful};
+ghost use Rattle.definitions.specs.Rows.{rowMeant};
+ghost use Rattle.definitions.specs.Kept.{Kept, Added, Lawful};
 use maps::Kind;
 use maps::Step;
 use names::Names;
 use names::add_name;
 use names::id_of;
 use records::NodeRow;
+use records::append;
+use records::put_row;
 use scan::after_blanks;
 use scan::after_word;
 use subset::Statement;
@@ -31,27 +33,6 @@ use subset::Statement;
 pub struct Size {
     pub nodes: usize,
     pub operands: usize,
-}
-
-// Appends a number to the first `count` of a list.
-pub fn append(list: &mut [u32], count: usize, x: u32)
-    requires { ⌜ count < length (now list) ⌝ }
-    ensures { λ _. ⌜ (take (count + 1) (now (list .exit)) ≡ take count (now (list .entry)) ++ (x ∷ [])) × (length (now (list .exit)) ≡ length (now (list .entry))) ⌝ }
-{
-    list[count] = x;
-}
-
-// Appends a row to the first n.
-pub fn append_row(nodes: &mut [u32], n: usize, row: NodeRow)
-    requires { ⌜ nodePlace (n + 1) ≤ length (now nodes) ⌝ }
-    ensures { λ _. ⌜ (take (nodePlace (n + 1)) (now (nodes .exit)) ≡ take (nodePlace n) (now (nodes .entry)) ++ rowNumbers row) × (length (now (nodes .exit)) ≡ length (now (nodes .entry))) ⌝ }
-{
-    let at = n * 5;
-    append(nodes, at, row.kind);
-    append(nodes, at + 1, row.output);
-    append(nodes, at + 2, row.delay);
-    append(nodes, at + 3, row.latency);
-    append(nodes, at + 4, row.end);
 }
 
 // The row of a node that is not marked, where a table takes `delay` levels and the operands end at `end`.
@@ -134,7 +115,7 @@ pub fn keep_node(
     let rest = append_reads(text, start, reads, names, n, operands, used);
     let first = after_blanks(text, rest);
     add_name(text, names, n, first);
-    append_row(nodes, n, row_of(kind, delay, (used + reads) as u32));
+    put_row(nodes, n, row_of(kind, delay, (used + reads) as u32));
     after_word(text, first)
 }
 
@@ -208,6 +189,16 @@ pub fn keep_one(
     }
 }
 
+// The kind of a `.names` that reads so many names.
+pub fn kind_of(reads: usize) -> Kind
+    ensures { λ r. ⌜ ((us : List Word) → length us ≡ reads → kindMeant r ≡ kindOf us) ⌝ }
+{
+    if reads == 0 {
+        return Kind::Input;
+    }
+    Kind::Logic
+}
+
 // Keeps what a line without fault defines.
 pub fn keep_line(
     text: &[u8],
@@ -231,23 +222,17 @@ pub fn keep_line(
         Statement::Inputs => keep_inputs(
             text, rest, count, delay, names, nodes, operands, size,
         ),
-        Statement::Names => {
-            let mut kind = Kind::Logic;
-            if count == 1 {
-                kind = Kind::Input;
-            }
-            keep_one(
-                text,
-                rest,
-                count - 1,
-                kind,
-                delay,
-                names,
-                nodes,
-                operands,
-                size,
-            )
-        }
+        Statement::Names => keep_one(
+            text,
+            rest,
+            count - 1,
+            kind_of(count - 1),
+            delay,
+            names,
+            nodes,
+            operands,
+            size,
+        ),
         Statement::Latch => keep_one(
             text,
             rest,

@@ -1,0 +1,105 @@
+-- What a line without fault defines: names that are new, which read names that are defined.
+use Prim.Native.Nat.{ℕ, zero, suc, _+_, _-_, _≤_, _<_}
+use mathlib.Core.Path.{_≡_, refl, sym, ap, _∙_}
+use mathlib.Core.Bool.{Bool, true, false, _&&_, not}
+use mathlib.Core.List.{List, [], _∷_, _++_, append-nil}
+use native.Mathlib.Omega.{arith}
+use native.Mathlib.Nat.{not-suc-le-zero}
+use lib.Dec.{leb}
+use lib.ListN.{length, getD, take, length-map}
+use lib.Seq.{take-length}
+use borrow.Author.Tests.{leb-true}
+use Rattle.maps.specs.Lists.{all}
+use Rattle.maps.specs.Sheet.{Kind, input, logic, box}
+use Rattle.maps.specs.Limits.{sizeRange, operandsMost}
+use Rattle.maps.proofs.Over.{and-true}
+use Rattle.blif.specs.Words.{Word}
+use Rattle.blif.specs.Subset.{Statement, inputs, latch, initOf, lastOf, namesLine}
+use Rattle.blif.specs.Names.{Definition, definition, kindOf, inputsOf, defined, namesOf, readsOf, has, fresh, resolves}
+use Rattle.blif.specs.Limits.{nameMost, named, fewOperands, someNodes, withinLimits}
+use Rattle.definitions.specs.Kept.{Lawful}
+
+-- the parts of what is lawful
+pub record Parts (ds : List Definition) (s : Statement) : Type 0 where
+  pub reads : all (has (namesOf ds)) (readsOf (defined s)) ≡ true
+  pub new : fresh (namesOf ds) (namesOf (defined s)) ≡ true
+  pub few : fewOperands s ≡ true
+  pub room : length ds + length (defined s) ≤ sizeRange .high
+
+pub lawful-parts : (ds : List Definition) (s : Statement) → Lawful ds s → Parts ds s
+lawful-parts ds s h =
+    let r = and-true (all (has (namesOf ds)) (readsOf (defined s))) (fresh (namesOf ds) (namesOf (defined s))) (h .resolved) in
+    let short = all (λ (w : Word). leb (length w) nameMost) (named s) in
+    let three = and-true (short && fewOperands s && leb (length ds + length (defined s)) (sizeRange .high)) (someNodes (length ds) s) (h .limited) in
+    let two = and-true (short && fewOperands s) (leb (length ds + length (defined s)) (sizeRange .high)) (three .0) in
+    record { reads = r .0; new = r .1; few = and-true short (fewOperands s) (two .0) .1; room = leb-true (length ds + length (defined s)) (sizeRange .high) (two .1) }
+
+-- a line that defines one node
+pub record One (ds : List Definition) (x : Definition) : Type 0 where
+  pub reads : all (has (namesOf ds)) (x .reads) ≡ true
+  pub new : has (namesOf ds) (x .name) ≡ false
+  pub room : length ds < sizeRange .high
+
+pub lawful-one : (ds : List Definition) (s : Statement) (x : Definition) → defined s ≡ x ∷ [] → Lawful ds s → One ds x
+lawful-one ds s x e h =
+    let p = lawful-parts ds s h in
+    record {
+      reads = ap (all (has (namesOf ds))) (sym (append-nil (x .reads)) ∙ ap readsOf (sym e)) ∙ p .reads;
+      new = go (has (namesOf ds) (x .name)) (ap (λ (xs : List Definition). fresh (namesOf ds) (namesOf xs)) (sym e) ∙ p .new);
+      room = omega (arith, p .room, ap length e);
+    }
+  where
+    go : (b : Bool) → (not b && true) ≡ true → b ≡ false
+    go true q = sym q
+    go false q = refl
+
+-- the one node of a `.names`, and of a `.latch`
+init-take : (w : Word) (ws : List Word) → initOf w ws ≡ take (length ws) (w ∷ ws)
+init-take w [] = refl
+init-take w (x ∷ ws) = ap (λ (us : List Word). w ∷ us) (init-take x ws)
+
+last-at : (w : Word) (ws : List Word) → lastOf w ws ≡ getD (w ∷ ws) (length ws) []
+last-at w [] = refl
+last-at w (x ∷ ws) = last-at x ws
+
+pub names-defined : (ws : List Word) (n : ℕ) → length ws ≡ suc n → defined (namesLine ws) ≡ definition (getD ws n []) (kindOf (take n ws)) (take n ws) ∷ []
+names-defined [] n l = absurd (omega arith)
+names-defined (w ∷ ws) n l =
+    let e : length ws ≡ n = omega (arith, l) in
+    rw (sym e, sym (init-take w ws), sym (last-at w ws)) refl
+
+pub latch-defined : (ws : List Word) → 2 ≤ length ws → defined (latch (getD ws 0 []) (getD ws 1 [])) ≡ definition (getD ws 1 []) (box 1) (take 1 ws) ∷ []
+latch-defined [] l = absurd (omega arith)
+latch-defined (w ∷ ws) l = refl
+
+-- how many it reads
+pub names-few : (ws : List Word) (n : ℕ) → length ws ≡ suc n → fewOperands (namesLine ws) ≡ true → n ≤ operandsMost
+names-few [] n l f = absurd (omega arith)
+names-few (w ∷ ws) n l f = omega (arith, leb-true (length (initOf w ws)) operandsMost f, size w ws)
+  where
+    size : (w : Word) (ws : List Word) → length (initOf w ws) ≡ length ws
+    size w [] = refl
+    size w (x ∷ ws) = omega (arith, size x ws)
+
+-- the kind of a `.names`
+pub kind-none : (us : List Word) → length us ≡ 0 → input ≡ kindOf us
+kind-none [] l = refl
+kind-none (u ∷ us) l = absurd (omega arith)
+
+pub kind-some : (us : List Word) → (length us ≡ 0 → ⊥) → logic ≡ kindOf us
+kind-some [] l = absurd (l refl)
+kind-some (u ∷ us) l = refl
+
+-- a line of inputs: its names are all of its words
+inputs-names : (ws : List Word) → namesOf (inputsOf ws) ≡ ws
+inputs-names [] = refl
+inputs-names (w ∷ ws) = ap (λ (ns : List Word). w ∷ ns) (inputs-names ws)
+
+pub all-words : (ws : List Word) (n : ℕ) → n ≡ length ws → take n ws ≡ ws
+all-words ws n e = rw e (take-length ws)
+
+pub inputs-new : (ds : List Definition) (ws : List Word) (n : ℕ) → n ≡ length ws → Lawful ds (inputs ws) → fresh (namesOf ds) (take n ws) ≡ true
+inputs-new ds ws n e h = ap (fresh (namesOf ds)) (all-words ws n e ∙ sym (inputs-names ws)) ∙ lawful-parts ds (inputs ws) h .new
+
+pub inputs-room : (ds : List Definition) (ws : List Word) → Lawful ds (inputs ws) → length ds + length ws ≤ sizeRange .high
+inputs-room ds ws h = omega (arith, lawful-parts ds (inputs ws) h .room, length-map ws (λ (w : Word). definition w input []))

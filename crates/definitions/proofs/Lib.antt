@@ -1,0 +1,3 @@
+pub mod RowLaws
+pub mod Keeping
+pub mod Lawful
