@@ -6,12 +6,12 @@ use mathlib.Core.List.{List, [], _∷_}
 use native.Mathlib.Omega.{arith}
 use native.Mathlib.Numerals.{add-one}
 use lib.ListN.{length, getD, drop, length-drop, drop-of-length-le}
-use lib.Dec.{ltb}
+use lib.Dec.{eqb, ltb}
 use lib.Seq.{drop-cons}
 use borrow.Author.Tests.{ltb-true, ltb-false}
 use Rattle.blif.proofs.Ordering.{clash}
 use Rattle.maps.specs.Number.{byteAt}
-use Rattle.blif.specs.Lines.{onto}
+use Rattle.blif.specs.Lines.{newline, onto, lines}
 use Rattle.blif.specs.Words.{Word, blank, ending, words}
 use Rattle.blif.specs.Scan.{joinsHere, until, from, endsLine, endsWord, endsBlanks, atLineEnd, pastLine, nameAt, wordsAt, joinAt}
 use Rattle.blif.proofs.Positions.{until-at, until-end}
@@ -103,7 +103,7 @@ pub line-past : (s : List ℕ) (at first rest : ℕ) → drop first s ≡ from e
 line-past s at first rest e f =
     (ap pastLine (f ∙ ap (from endsWord) e) ∙ next-word-past (drop at s), ap pastLine e ∙ past-blanks (drop at s))
 
--- no more bytes before a stop than bytes, and no more words than bytes
+-- no more bytes before a stop than bytes, no more words and no more lines
 until-most : (stop : ℕ → Bool) (t : List ℕ) → length (until stop t) ≤ length t
 unfolding until
 until-most stop [] = omega arith
@@ -133,6 +133,15 @@ words-most (b ∷ t) = go (blank b) (ending t) (words-most t)
     go true y r = omega (arith, r)
     go false true r = omega (arith, r)
     go false false r = omega (arith, r, onto-most b (words t))
+
+pub lines-most : (t : List ℕ) → length (lines t) ≤ length t
+unfolding lines
+lines-most [] = omega arith
+lines-most (b ∷ t) = go (eqb b newline) (lines-most t)
+  where
+    go : (x : Bool) → length (lines t) ≤ length t → length (cond x ([] ∷ lines t) (onto b (lines t))) ≤ suc (length t)
+    go true r = omega (arith, r)
+    go false r = omega (arith, r, onto-most b (lines t))
 
 pub name-length-most : (s : List ℕ) (at : ℕ) → length (nameAt s at) ≤ length s - at
 name-length-most s at = rw (name-rest s at) (omega (arith, until-most endsWord (drop at s), length-drop at s))

@@ -13,7 +13,6 @@ use Rattle.blif.specs.Words.{Word}
 use Rattle.blif.specs.Names.{Definition, namesOf, readsOf, has, fresh}
 use Rattle.blif.specs.Import.{idOf}
 use Rattle.blif.proofs.Naming.{has-place, id-first}
-use Rattle.blif.proofs.Ordering.{Once, once-none, once-more}
 use Rattle.definitions.specs.Rows.{rowsFrom}
 
 pub names-append : (xs ys : List Definition) → namesOf (xs ++ ys) ≡ namesOf xs ++ namesOf ys
@@ -70,47 +69,3 @@ all-grows ns ms (w ∷ ws) h =
 pub all-append : {A : Type 0} (p : A → Bool) (xs ys : List A) → all p (xs ++ ys) ≡ (all p xs && all p ys)
 all-append p [] ys = refl
 all-append p (x ∷ xs) ys = ap (λ (b : Bool). p x && b) (all-append p xs ys) ∙ sym (and-assoc (p x) (all p xs) (all p ys))
-
--- none of the words is among the names
-abbrev pub apart : (names words : List Word) → Bool
-apart ns ws = all (λ w. not (has ns w)) ws
-
-apart-more : (n : Word) (old ws : List Word) → apart (n ∷ old) ws ≡ (apart (n ∷ []) ws && apart old ws)
-apart-more n old [] = refl
-apart-more n old (w ∷ ws) = go (equal w n) (has old w) (apart (n ∷ old) ws) (apart (n ∷ []) ws) (apart old ws) (apart-more n old ws)
-  where
-    go : (a b x y z : Bool) → x ≡ (y && z) → (not (a || b) && x) ≡ ((not (a || false) && y) && (not b && z))
-    go true b x y z e = refl
-    go false true x true z e = refl
-    go false true x false z e = refl
-    go false false x y z e = e
-
--- Fresh names are apart from the old ones, and fresh among themselves.
-pub fresh-splits : (old new : List Word) → fresh old new ≡ (apart old new && fresh [] new)
-fresh-splits old [] = refl
-fresh-splits old (n ∷ new) =
-    go (has old n) (fresh (n ∷ old) new) (apart (n ∷ old) new) (apart (n ∷ []) new) (apart old new) (fresh (n ∷ []) new) (fresh [] new) (fresh-splits (n ∷ old) new) (apart-more n old new) (fresh-splits (n ∷ []) new)
-  where
-    go : (h f a b c g k : Bool) → f ≡ (a && k) → a ≡ (b && c) → g ≡ (b && k) → (not h && f) ≡ ((not h && c) && g)
-    go true f a b c g k p q r = refl
-    go false f a true true g k p q r = p ∙ ap (λ x. x && k) q ∙ sym r
-    go false f a true false g k p q r = p ∙ ap (λ x. x && k) q
-    go false f a false true g k p q r = p ∙ ap (λ x. x && k) q ∙ sym r
-    go false f a false false g k p q r = p ∙ ap (λ x. x && k) q
-
-pub fresh-joins : (old new : List Word) → fresh [] (old ++ new) ≡ (fresh [] old && fresh old new)
-fresh-joins [] new = refl
-fresh-joins (n ∷ old) new =
-    fresh-splits (n ∷ []) (old ++ new)
-    ∙ rw (all-append (λ w. not (has (n ∷ []) w)) old new, fresh-joins old new, fresh-splits (n ∷ []) old, fresh-splits (n ∷ old) new, fresh-splits old new, apart-more n old new)
-    (go (apart (n ∷ []) old) (apart (n ∷ []) new) (fresh [] old) (apart old new) (fresh [] new))
-  where
-    go : (a b c x y : Bool) → ((a && b) && (c && (x && y))) ≡ ((a && c) && ((b && x) && y))
-    go true true c x y = refl
-    go true false true x y = refl
-    go true false false x y = refl
-    go false b c x y = refl
-
--- names that are fresh come once
-pub fresh-once : (ns : List Word) → fresh [] ns ≡ true → Once ns
-fresh-once ns e = once-more [] ns once-none e

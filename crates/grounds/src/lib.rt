@@ -1,13 +1,12 @@
 // Grounds 10 and 11 of a line: whether its names are as they may be, and whether it keeps the limits.
 ghost use mathlib.Core.Path.{_≡_};
 ghost use mathlib.Core.Logic.{_⊎_};
-ghost use mathlib.Core.List.{List};
 ghost use Prim.Native.Nat.{_+_, _≤_};
 ghost use lib.Dec.{leb};
 ghost use lib.ListN.{length, take, drop};
 ghost use Rattle.maps.specs.Lists.{all, keep};
-ghost use Rattle.blif.specs.Words.{Word};
 ghost use Rattle.blif.specs.Scan.{wordsAt};
+ghost use Rattle.blif.specs.Subset as Subset;
 ghost use Rattle.blif.specs.Names.{has, defined, resolves as Resolves};
 ghost use Rattle.blif.specs.Limits.{nameMost, textMost, withinLimits};
 ghost use Rattle.names.specs.Table.{namesIn, Listed};
@@ -41,13 +40,7 @@ pub fn skip_words(text: &[u8], start: usize, k: usize) -> usize
 }
 
 // How many of the next k words are names that are defined.
-pub fn count_defined(
-    text: &[u8],
-    start: usize,
-    k: usize,
-    names: &Names,
-    count: usize,
-) -> usize
+pub fn count_defined(text: &[u8], start: usize, k: usize, names: &Names, count: usize) -> usize
     requires { ⌜ (k ≤ length (wordsAt (now text) start)) × Listed (now text) (now names) count ⌝ }
     ensures { λ r. ⌜ r ≡ length (keep (has (namesIn (now (text .entry)) (now (names .entry)) count)) (take k (wordsAt (now (text .entry)) start))) ⌝ }
 {
@@ -85,17 +78,11 @@ pub fn all_short(text: &[u8], start: usize, k: usize) -> bool
 }
 
 // Ground 10: whether a line reads only names that are defined, and defines only new ones, each once. Its words stand at `rest`.
-pub fn resolves(
-    text: &[u8],
-    rest: usize,
-    parts: Parts,
-    names: &Names,
-    count: usize,
-) -> bool
+pub fn resolves(text: &[u8], rest: usize, parts: Parts, names: &Names, count: usize) -> bool
     requires { ⌜ (length (now text) ≤ textMost) × Listed (now text) (now names) count ⌝ }
     requires { ⌜ (parts .reads + parts .defines ≤ length (wordsAt (now text) rest)) × ((parts .defines ≤ 1) ⊎ (parts .reads + parts .defines ≡ length (wordsAt (now text) rest))) ⌝ }
-    ensures { λ r. ⌜ (s : Statement) → PartsOf s (wordsAt (now (text .entry)) rest) parts
-        → r ≡ Resolves (namesIn (now (text .entry)) (now (names .entry)) count) (defined s) ⌝ }
+    ensures { λ r. ⌜ ((s : Subset.Statement) → PartsOf s (wordsAt (now (text .entry)) rest) parts
+        → r ≡ Resolves (namesIn (now (text .entry)) (now (names .entry)) count) (defined s)) ⌝ }
 {
     let reads = parts.reads;
     let defines = parts.defines;
@@ -122,8 +109,8 @@ pub fn within_limits(
     nodes: usize,
 ) -> bool
     requires { ⌜ (parts .names ≤ length (wordsAt (now text) rest)) × (count ≡ length (wordsAt (now text) rest)) × Shaped statement count × (nodes ≤ 256) ⌝ }
-    ensures { λ r. ⌜ PartsOf (statementMeant statement (wordsAt (now (text .entry)) rest)) (wordsAt (now (text .entry)) rest) parts
-        → r ≡ withinLimits nodes (statementMeant statement (wordsAt (now (text .entry)) rest)) ⌝ }
+    ensures { λ r. ⌜ (PartsOf (statementMeant statement (wordsAt (now (text .entry)) rest)) (wordsAt (now (text .entry)) rest) parts
+        → r ≡ withinLimits nodes (statementMeant statement (wordsAt (now (text .entry)) rest))) ⌝ }
 {
     if !all_short(text, rest, parts.names) {
         return false;

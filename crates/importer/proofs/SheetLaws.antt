@@ -25,8 +25,8 @@ use Rattle.blif.specs.Model.{Model, Found, found, faulty, modelOf}
 use Rattle.blif.specs.Import.{idOf, isOutput, nodeOf, sheetOf, undefined, Imported, imported, refused, withOutputs, ofFound, importSheet, handed, importing}
 use Rattle.blif.specs.Relations.{noDefinition}
 use Rattle.blif.proofs.Sheets.{imported-well}
-use Rattle.model.specs.Rows.{rowsFrom, idsOf}
-use Rattle.model.proofs.RowLaws.{reads-append, rows-length}
+use Rattle.definitions.specs.Rows.{rowsFrom, idsOf}
+use Rattle.definitions.proofs.RowLaws.{reads-append, rows-length}
 
 -- a list made over the places of another
 map-over : {A B : Type 0} (f : ℕ → B) (g : A → B) (d : A) (xs : List A) → ((i : ℕ) → i < length xs → f i ≡ g (getD xs i d)) → map f (below (length xs)) ≡ map g xs

@@ -1,20 +1,27 @@
 -- What reading a line, and all lines, comes to.
 use Prim.Native.Nat.{ℕ, _+_}
 use mathlib.Core.Path.{_≡_}
+use mathlib.Core.Bool.{Bool, true, false}
 use mathlib.Core.List.{List}
 use lib.ListN.{length, take}
 use Rattle.maps.specs.Code.{numberOf, placeOf}
 use Rattle.blif.specs.Lines.{lines}
 use Rattle.blif.specs.Words.{Line, withWords}
 use Rattle.blif.specs.Scan.{newlines, wordsAt}
+use Rattle.blif.specs.Subset as S
 use Rattle.blif.specs.Model.{Model, Found, found, faulty, ended, modelFrom, modelOf}
 use Rattle.subset.specs.declared.Stage.{Stage}
 use Rattle.subset.specs.Meant.{stageMeant}
 use Rattle.definitions.specs.Kept.{Kept}
-use Rattle.model.specs.declared.Turn.{Turn}
-use Rattle.model.specs.declared.Turn.the-variants.{Next, Refused}
-use Rattle.model.specs.declared.Model as Code
-use Rattle.model.specs.declared.Model.the-variants as Codes
+use Rattle.model.specs.declared.line.Turn.{Turn}
+use Rattle.model.specs.declared.line.Turn.the-variants.{Next, Refused}
+use Rattle.model.specs.declared.reading.Model as Code
+use Rattle.model.specs.declared.reading.Model.the-variants as Codes
+
+-- the stage is the one after `.end`, as the test says
+abbrev pub LastStage : S.Stage → Bool → Type 0
+LastStage g true = g ≡ S.last
+LastStage g false = g ≡ S.last → ⊥
 
 module _ (text : List ℕ) (d : ℕ) where
   -- the model that the line at a position and the lines after it lead to

@@ -1,8 +1,9 @@
 // One line of a text.
 ghost use mathlib.Core.Path.{_≡_};
-ghost use Prim.Native.Nat.{ℕ, _+_, _<_, _≤_};
+ghost use mathlib.Core.Bool.{false};
+ghost use Prim.Native.Nat.{_<_, _≤_};
 ghost use lib.ListN.{length, drop};
-ghost use Rattle.blif.specs.Scan.{from, endsBlanks, atLineEnd, wordsAt};
+ghost use Rattle.blif.specs.Scan.{from, endsBlanks, atLineEnd};
 ghost use Rattle.blif.specs.Limits.{textMost};
 ghost use Rattle.blif.specs.Model.{Model};
 ghost use Rattle.definitions.specs.Kept.{Kept};

@@ -4,8 +4,9 @@ ghost use mathlib.Core.List.{[]};
 ghost use Prim.Native.Nat.{_≤_};
 ghost use lib.ListN.{length};
 ghost use Rattle.blif.specs.Limits.{textMost};
+ghost use Rattle.subset.specs.Meant.{stageMeant};
 ghost use Rattle.definitions.specs.Kept.{Kept};
-ghost use Rattle.model.specs.Turns.{LinesRead, ModelRead};
+ghost use Rattle.model.specs.Turns.{LinesRead, LastStage, ModelRead};
 use definitions::Size;
 use crate::line::State;
 use crate::line::Turn;
@@ -42,26 +43,27 @@ pub fn read_lines(
         },
     };
     while at < text.len() {
+        let next = after_line(text, at);
         let turn = read_line(text, at, state, delay, names, nodes, operands);
-        let Turn::Next(next) = turn else {
+        let Turn::Next(reached) = turn else {
             return turn;
         };
-        state = next;
-        at = after_line(text, at);
+        state = reached;
+        at = next;
     }
     Turn::Next(state)
 }
 
-// The model, where `.end` was the last line that has a word.
-pub fn ended(text: &[u8], state: State) -> Model
+// Whether a line after `.end` stands here.
+pub fn is_last(stage: Stage) -> bool
+    ensures { λ r. ⌜ LastStage (stageMeant stage) r ⌝ }
 {
-    let stage = state.stage;
     match stage {
-        Stage::Last => Model::Read(state.size),
-        Stage::First => Model::Refused(Refusal::Subset(line_count(text) + 1)),
-        Stage::Head => Model::Refused(Refusal::Subset(line_count(text) + 1)),
-        Stage::Cover(_) => Model::Refused(Refusal::Subset(line_count(text) + 1)),
-        Stage::Latched => Model::Refused(Refusal::Subset(line_count(text) + 1)),
+        Stage::Last => true,
+        Stage::First => false,
+        Stage::Head => false,
+        Stage::Cover(_) => false,
+        Stage::Latched => false,
     }
 }
 
@@ -79,6 +81,13 @@ pub fn read_model(
     let turn = read_lines(text, delay, names, nodes, operands);
     match turn {
         Turn::Refused(why) => Model::Refused(why),
-        Turn::Next(state) => ended(text, state),
+        Turn::Next(state) => {
+            let stage = state.stage;
+            let size = state.size;
+            if is_last(stage) {
+                return Model::Read(size);
+            }
+            Model::Refused(Refusal::Subset(line_count(text) + 1))
+        }
     }
 }

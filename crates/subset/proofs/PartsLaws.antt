@@ -3,6 +3,7 @@ use Prim.Native.Nat.{ℕ, suc, _-_, _≤_}
 use mathlib.Core.Path.{_≡_, refl, sym, subst, ap, _∙_}
 use mathlib.Core.Bool.{true}
 use mathlib.Core.List.{List, [], _∷_, _++_, map, append-nil}
+use mathlib.Core.Logic.{inl, inr}
 use native.Mathlib.Omega.{arith}
 use lib.Dec.{leb}
 use lib.ListN.{length, getD, take, drop}
@@ -51,7 +52,7 @@ inputs-count (n ∷ ns) = ap suc (inputs-count ns)
 
 pub parts-model : (ws : List Word) → length ws ≡ 1 → PartsOf (model (getD ws 0 [])) ws (parts 0 0 1)
 parts-model [] e = absurd (omega (arith, e))
-parts-model (w ∷ ws) e = record { reads = refl; defines = refl; names = refl; few = refl; enough = omega arith; named-enough = omega arith; count = refl }
+parts-model (w ∷ ws) e = record { reads = refl; defines = refl; names = refl; few = refl; enough = omega arith; named-enough = omega arith; count = refl; alone = inl (omega arith) }
 
 pub parts-inputs : (ws : List Word) → PartsOf (inputs ws) ws (parts 0 (length ws) (length ws))
 parts-inputs ws = record {
@@ -62,10 +63,11 @@ parts-inputs ws = record {
   enough = omega arith;
   named-enough = omega arith;
   count = inputs-count ws;
+  alone = inr (omega arith);
 }
 
 pub parts-outputs : (ws : List Word) → PartsOf (outputs ws) ws (parts 0 0 (length ws))
-parts-outputs ws = record { reads = refl; defines = refl; names = sym (take-length ws); few = refl; enough = omega arith; named-enough = omega arith; count = refl }
+parts-outputs ws = record { reads = refl; defines = refl; names = sym (take-length ws); few = refl; enough = omega arith; named-enough = omega arith; count = refl; alone = inl (omega arith) }
 
 parts-some : (w : Word) (ws : List Word) → PartsOf (namesLine (w ∷ ws)) (w ∷ ws) (parts (length ws) 1 (suc (length ws)))
 parts-some w ws = record {
@@ -76,6 +78,7 @@ parts-some w ws = record {
   enough = omega arith;
   named-enough = omega arith;
   count = refl;
+  alone = inl (omega arith);
 }
 
 pub parts-names : (ws : List Word) → 1 ≤ length ws → PartsOf (namesLine ws) ws (parts (length ws - 1) 1 (length ws))
@@ -85,7 +88,7 @@ parts-names (w ∷ ws) l = let e : length ws ≡ suc (length ws) - 1 = omega ari
 pub parts-latch : (ws : List Word) → 2 ≤ length ws → PartsOf (latch (getD ws 0 []) (getD ws 1 [])) ws (parts 1 1 2)
 parts-latch [] l = absurd (omega (arith, l))
 parts-latch (w ∷ []) l = absurd (omega (arith, l))
-parts-latch (w ∷ x ∷ ws) l = record { reads = refl; defines = refl; names = refl; few = refl; enough = omega arith; named-enough = omega arith; count = refl }
+parts-latch (w ∷ x ∷ ws) l = record { reads = refl; defines = refl; names = refl; few = refl; enough = omega arith; named-enough = omega arith; count = refl; alone = inl (omega arith) }
 
 -- a line without a name
 pub parts-none : (s : Statement) (ws : List Word) → defined s ≡ [] → named s ≡ [] → fewOperands s ≡ true → PartsOf s ws (parts 0 0 0)
@@ -97,6 +100,7 @@ parts-none s ws d n f = record {
   enough = omega arith;
   named-enough = omega arith;
   count = ap length d;
+  alone = inl (omega arith);
 }
 
 -- the cover after a `.names` has as many inputs as it has words but one

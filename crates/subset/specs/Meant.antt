@@ -2,6 +2,7 @@
 use Prim.Native.Nat.{ℕ, _+_, _≤_}
 use mathlib.Core.Path.{_≡_}
 use mathlib.Core.List.{List, []}
+use mathlib.Core.Logic.{_⊎_}
 use lib.Dec.{leb}
 use lib.ListN.{length, getD, take, drop}
 use Rattle.maps.specs.Limits.{operandsMost}
@@ -45,7 +46,8 @@ Shaped Latch count = 2 ≤ count
 Shaped End count = Unit {0}
 Shaped Outside count = Unit {0}
 
--- the names that a line reads, then those that it defines, and all its names, as parts of its words after the first
+-- the names that a line reads, then those that it defines, and all its names, as parts of its words after the first;
+-- where it defines more than one, its words end with these
 pub record PartsOf (s : Subset.Statement) (ws : List Word) (p : Parts) : Type 0 where
   pub reads : readsOf (defined s) ≡ take (p .reads) ws
   pub defines : namesOf (defined s) ≡ take (p .defines) (drop (p .reads) ws)
@@ -54,3 +56,4 @@ pub record PartsOf (s : Subset.Statement) (ws : List Word) (p : Parts) : Type 0 
   pub enough : p .reads + p .defines ≤ length ws
   pub named-enough : p .names ≤ length ws
   pub count : length (defined s) ≡ p .defines
+  pub alone : (p .defines ≤ 1) ⊎ (p .reads + p .defines ≡ length ws)

@@ -1,0 +1,9 @@
+pub mod Ordering
+pub mod Repeating
+pub mod Merging
+pub mod Comparing
+pub mod Filling
+pub mod Placing
+pub mod Halving
+pub mod Collecting
+pub mod Unjoining
