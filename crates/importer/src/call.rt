@@ -5,15 +5,16 @@ ghost use Prim.Native.Nat.{ℕ, _≤_};
 ghost use lib.ListN.{length};
 ghost use Rattle.bytes.specs.Outcome.{Answered, numberAnswered, placeAnswered};
 ghost use Rattle.blif.specs.Limits.{Caller, caller, delay as Delay, callable, textMost};
-ghost use Rattle.blif.specs.Model.{Model, found, modelOf};
+ghost use Rattle.blif.specs.Model as Blif;
+ghost use Rattle.blif.specs.Model.{found, modelOf};
 ghost use Rattle.blif.specs.Import.{importing};
-ghost use Rattle.model.specs.Kept.{Kept};
+ghost use Rattle.definitions.specs.Kept.{Kept};
 use crate::caller::delay_of;
 use crate::caller::is_callable;
 use bytes::Outcome;
 use maps::Refusal;
 use model::Model;
-use model::Size;
+use definitions::Size;
 use model::read_model;
 use names::Names;
 use outputs::Marked;
@@ -32,8 +33,8 @@ pub fn write_model(
     size: Size,
     buffer: &mut [u8],
 ) -> Outcome
-    requires { ⌜ (length (now text) ≤ textMost) × ((d : ℕ) × (M : Model) × Kept (now text) d (M .definitions) (now names) (now nodes) (now operands) (size .nodes) (size .operands) × (modelOf (now text) ≡ found M)) ⌝ }
-    ensures { λ r. ⌜ ((c : Caller) (M : Model) → callable c ≡ true → c .leaves ≡ leaves → c .top ≡ top → c .horizon ≡ horizon
+    requires { ⌜ (length (now text) ≤ textMost) × ((d : ℕ) × (M : Blif.Model) × Kept (now text) d (M .definitions) (now names) (now nodes) (now operands) (size .nodes) (size .operands) × (modelOf (now text) ≡ found M)) ⌝ }
+    ensures { λ r. ⌜ ((c : Caller) (M : Blif.Model) → callable c ≡ true → c .leaves ≡ leaves → c .top ≡ top → c .horizon ≡ horizon
         → Kept (now (text .entry)) (Delay c) (M .definitions) (now (names .entry)) (now (nodes .entry)) (now (operands .entry)) (size .nodes) (size .operands) → modelOf (now (text .entry)) ≡ found M
         → Answered (importing (now (text .entry)) c (length (now (buffer .entry)))) (numberAnswered r) (placeAnswered r) (now (buffer .entry)) (now (buffer .exit))) ⌝ }
 {
