@@ -13,14 +13,14 @@ pub extern "C" fn maps_import(
     leaves: u32,
     top: u32,
     horizon: u32,
-    table_ps: u32,
-    level_ps: u32,
+    table: u32,
+    level: u32,
     sheet: &mut [u8],
 ) -> Answer
-    ensures { λ r. ⌜ Answered (importing (now (text .entry)) (caller leaves top horizon table_ps level_ps) (length (now (sheet .entry))))
+    ensures { λ r. ⌜ Answered (importing (now (text .entry)) (caller leaves top horizon table level) (length (now (sheet .entry))))
         (r .number) (r .place) (now (sheet .entry)) (now (sheet .exit)) ⌝ }
 {
     answer_of(import_blif(
-        text, leaves, top, horizon, table_ps, level_ps, sheet,
+        text, leaves, top, horizon, table, level, sheet,
     ))
 }

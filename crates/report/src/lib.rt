@@ -86,13 +86,13 @@ fn print_first(bytes: &[u8], n: usize) {
     }
 }
 
-// The line of a refusal: number, then place.
-fn print_refusal(why: Refusal) {
-    io::write_all(1, b"refused");
-    print_next(why.number());
-    io::write_all(1, b" ");
-    io::print_decimal(1, why.place() as u64);
-    io::write_all(1, b"\n");
+// The line of a refusal, on a descriptor: number, then place.
+pub fn print_refusal(fd: i32, why: Refusal) {
+    io::write_all(fd, b"refused ");
+    io::print_decimal(fd, why.number() as u64);
+    io::write_all(fd, b" ");
+    io::print_decimal(fd, why.place() as u64);
+    io::write_all(fd, b"\n");
 }
 
 // Plans a sheet and prints what came of it, the listing or the line of the refusal; its number.
@@ -103,7 +103,7 @@ pub fn report(sheet: &[u8]) -> u32
     let answer = planner::plan(sheet, &mut buffer);
     match answer {
         Outcome::Refused(why) => {
-            print_refusal(why);
+            print_refusal(1, why);
             why.number()
         }
         Outcome::Written(n) => {
