@@ -6,6 +6,7 @@ use lib.ListN.{length, take, drop}
 use lib.Seq.{take-at, drop-at}
 use Rattle.maps.specs.Outcome.{Outcome, accepted, refusal, outcomeNumber, outcomePlace, bufferAfter}
 use Rattle.bytes.specs.Outcome.{Answered}
+use Rattle.customer.specs.Answers.{Written, Refused}
 
 module _ (o : Outcome) (number place : ℕ) (buffer after : List ℕ) (is : Answered o number place buffer after) where
   -- any number but 0 leaves the buffer
@@ -29,3 +30,12 @@ module _ (o : Outcome) (number place : ℕ) (buffer after : List ℕ) (is : Answ
 
     pub back : drop place after ≡ drop place buffer
     back = ap (drop place) stored ∙ drop-at p (drop (length p) buffer) place (sym placed) ∙ ap (λ (n : ℕ). drop n buffer) (sym placed)
+
+  -- so an outcome that accepts bytes has them written, and one that refuses writes nothing
+  pub accepts : (p : List ℕ) → o ≡ accepted p → Written buffer number place after p
+  accepts p e = record { number-is = is .0 ∙ ap outcomeNumber e; place-is = placed p e; front = front p e; back = back p e }
+
+  pub refuses : (k p : ℕ) → (k ≡ 0 → ⊥) → o ≡ refusal k p → Refused buffer number place after k p
+  refuses k p n e =
+      let a : number ≡ k = is .0 ∙ ap outcomeNumber e in
+      record { number-is = a; place-is = is .1 ∙ ap outcomePlace e; kept = untouched (λ z. n (sym a ∙ z)) }

@@ -3,3 +3,4 @@ pub mod Demands
 pub mod Bounds
 pub mod Reading
 pub mod Stores
+pub mod Imports

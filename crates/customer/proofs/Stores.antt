@@ -11,7 +11,7 @@ use borrow.Author.Tests.{leb-true, leb-false}
 use Rattle.maps.specs.Lists.{All}
 use Rattle.maps.specs.Reading.{ReadsAs}
 use Rattle.maps.specs.Form.{Rule, among, under, ground}
-use Rattle.maps.specs.Outcome.{accepted, refusal, outcomeNumber, outcomePlace}
+use Rattle.maps.specs.Outcome.{accepted, refusal, outcomeNumber}
 use Rattle.maps.specs.Records.{Records, sheetMeant, recordsOf}
 use Rattle.maps.specs.WriteLaws.{WriterLaws}
 use Rattle.maps.specs.Write.{Passes, First, numbers, spelling, writing}
@@ -19,24 +19,16 @@ use Rattle.maps.proofs.Written.{reproduced, meant-spelling}
 use Rattle.maps.proofs.WrittenSize.{sheet-most, numbers-most}
 use Rattle.maps.proofs.WriteLaws.{writer-laws}
 use Rattle.bytes.specs.Outcome.{Answered}
-use Rattle.customer.specs.Stores.{Written, Refused, Stores, mapsSheetMost, StoreBounded}
-use Rattle.customer.proofs.Answers.{untouched, placed, front, back}
+use Rattle.customer.specs.Answers.{Written, Refused}
+use Rattle.customer.specs.Stores.{Stores, mapsSheetMost, StoreBounded}
+use Rattle.customer.proofs.Answers as A
 
 module _ (R : Records) (buffer : List ℕ) (number place : ℕ) (after : List ℕ) (is : Answered (writing R (length buffer)) number place buffer after) where
-  accepts : (bytes : List ℕ) → writing R (length buffer) ≡ accepted bytes → Written R buffer number place after bytes
-  accepts bytes e =
-      let o = writing R (length buffer) in
-      record {
-        number-is = is .0 ∙ ap outcomeNumber e;
-        place-is = placed o number place buffer after is bytes e;
-        front = front o number place buffer after is bytes e;
-        back = back o number place buffer after is bytes e;
-      }
+  accepts : (bytes : List ℕ) → writing R (length buffer) ≡ accepted bytes → Written buffer number place after bytes
+  accepts = A.accepts (writing R (length buffer)) number place buffer after is
 
-  refuses : (k p : ℕ) → (k ≡ 0 → ⊥) → writing R (length buffer) ≡ refusal k p → Refused R buffer number place after k p
-  refuses k p n e =
-      let a : number ≡ k = is .0 ∙ ap outcomeNumber e in
-      record { number-is = a; place-is = is .1 ∙ ap outcomePlace e; kept = untouched (writing R (length buffer)) number place buffer after is (λ z. n (sym a ∙ z)) }
+  refuses : (k p : ℕ) → (k ≡ 0 → ⊥) → writing R (length buffer) ≡ refusal k p → Refused buffer number place after k p
+  refuses = A.refuses (writing R (length buffer)) number place buffer after is
 
   -- grounds 3 and 4
   first-ground : {k i : ℕ} → First (numbers R) k i → (k ≡ 3) ⊎ (k ≡ 4)

@@ -1,4 +1,6 @@
 pub mod Demands
 pub mod Bounds
 pub mod Reading
+pub mod Answers
 pub mod Stores
+pub mod Imports

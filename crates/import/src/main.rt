@@ -36,7 +36,7 @@ fn number_of(word: &[u8]) -> Argument {
 }
 
 // Argument i of the program.
-fn argument(i: usize) -> Argument {
+fn argument_at(i: usize) -> Argument {
     let mut word = [0u8; 16];
     let n = os::arg(i, &mut word);
     number_of(&word[..n])
@@ -78,11 +78,11 @@ fn main() {
         usage();
         return;
     }
-    let first = argument(1);
-    let second = argument(2);
-    let third = argument(3);
-    let fourth = argument(4);
-    let fifth = argument(5);
+    let first = argument_at(1);
+    let second = argument_at(2);
+    let third = argument_at(3);
+    let fourth = argument_at(4);
+    let fifth = argument_at(5);
     let Argument::Number(leaves) = first else {
         usage();
         return;
