@@ -23,29 +23,29 @@ use Rattle.definitions.specs.Kept.{Kept, Added}
 use Rattle.definitions.proofs.RowLaws.{names-append, reads-append, rows-append, ids-grow, has-append, all-grows, all-append}
 
 -- how many operands there are
-pub kept-reads : {text names nodes operands : List ℕ} {d n u : ℕ} {ds : List Definition} → Kept text d ds names nodes operands n u → u ≡ length (readsOf ds)
-kept-reads {text} {names} {nodes} {operands} {d} {n} {u} {ds} k =
+pub kept-reads : {names nodes operands : List ℕ} {d n u : ℕ} {ds : List Definition} → Kept d ds names nodes operands n u → u ≡ length (readsOf ds)
+kept-reads {names} {nodes} {operands} {d} {n} {u} {ds} k =
     let l : u ≤ length operands = omega (arith, k .few, k .long, k .listed .few) in
     omega (arith, length-take-le u operands l, ap length (k .ids), length-map (readsOf ds) (idOf (namesOf ds)))
 
 -- and how many definitions
-pub kept-size : {text names nodes operands : List ℕ} {d n u : ℕ} {ds : List Definition} → Kept text d ds names nodes operands n u → length ds ≡ n
-kept-size {text} {names} {n = n} {ds = ds} k =
-    omega (arith, ap length (k .named), length-names text names n, length-map ds (λ (x : Definition). x .name))
+pub kept-size : {names nodes operands : List ℕ} {d n u : ℕ} {ds : List Definition} → Kept d ds names nodes operands n u → length ds ≡ n
+kept-size {names} {n = n} {ds = ds} k =
+    omega (arith, ap length (k .named), length-names names n, length-map ds (λ (x : Definition). x .name))
 
-pub kept-same : {text names nodes operands : List ℕ} {d n u : ℕ} {xs ys : List Definition} → xs ≡ ys → Kept text d xs names nodes operands n u → Kept text d ys names nodes operands n u
-kept-same {text} {names} {nodes} {operands} {d} {n} {u} e k = subst (λ (zs : List Definition). Kept text d zs names nodes operands n u) e k
+pub kept-same : {names nodes operands : List ℕ} {d n u : ℕ} {xs ys : List Definition} → xs ≡ ys → Kept d xs names nodes operands n u → Kept d ys names nodes operands n u
+kept-same {names} {nodes} {operands} {d} {n} {u} e k = subst (λ (zs : List Definition). Kept d zs names nodes operands n u) e k
 
 -- The new definition reads names that are defined, whose ids stay as they are when its own name is added behind them.
-pub kept-added : {text names nodes operands names' nodes' operands' : List ℕ} {d n u m v : ℕ} {ds : List Definition} → Kept text d ds names nodes operands n u
+pub kept-added : {names nodes operands names' nodes' operands' : List ℕ} {d n u m v : ℕ} {ds : List Definition} → Kept d ds names nodes operands n u
     → (x : Definition) → n + 1 ≡ m → u + length (x .reads) ≡ v → all (has (namesOf ds)) (x .reads) ≡ true → length (x .reads) ≤ operandsMost
-    → Added text d x names nodes operands n u names' nodes' operands' → Kept text d (ds ++ (x ∷ [])) names' nodes' operands' m v
-kept-added {text} {names} {nodes} {operands} {names'} {nodes'} {operands'} {d} {n} {u} {m} {v} {ds} k x em ev h l a =
+    → Added d x names nodes operands n u names' nodes' operands' → Kept d (ds ++ (x ∷ [])) names' nodes' operands' m v
+kept-added {names} {nodes} {operands} {names'} {nodes'} {operands'} {d} {n} {u} {m} {v} {ds} k x em ev h l a =
     rw (sym em, sym ev) (record {
       listed = a .listed;
       named = a .named ∙ ap (λ (ns : List Word). ns ++ (x .name ∷ [])) (k .named) ∙ sym more;
       rows = a .rows ∙ ap (λ (rows : List ℕ). rows ++ rowOf d (λ w. false) (u + length (x .reads)) x) (k .rows) ∙ sym rows;
-      ids = a .ids ∙ ap (λ (us : List ℕ). us ++ map (idOf (namesIn text names n)) (x .reads)) (k .ids) ∙ ap (λ (ns : List Word). idsOf (namesOf ds) ds ++ map (idOf ns) (x .reads)) (k .named) ∙ sym ids;
+      ids = a .ids ∙ ap (λ (us : List ℕ). us ++ map (idOf (namesIn names n)) (x .reads)) (k .ids) ∙ ap (λ (ns : List Word). idsOf (namesOf ds) ds ++ map (idOf ns) (x .reads)) (k .named) ∙ sym ids;
       closed = closed;
       few = omega (arith, k .few, l);
       wide = a .wide ∙ k .wide;
@@ -84,8 +84,8 @@ pub one-id : (first : List ℕ) (ns ws : List Word) (w : Word) (i : ℕ) {before
 one-id first ns ws w i l q e f =
     e ∙ ap (λ (us : List ℕ). us ++ (idOf ns w ∷ [])) f ∙ append-assoc first (map (idOf ns) (take i ws)) (idOf ns w ∷ [])
     ∙ ap (λ (us : List ℕ). first ++ us)
-      (ap (λ (v : Word). map (idOf ns) (take i ws) ++ (idOf ns v ∷ [])) q ∙ sym (map-append (idOf ns) (take i ws) (getD ws i [] ∷ []))
-      ∙ ap (map (idOf ns)) (sym (take-suc ws i [] l) ∙ ap (λ (k : ℕ). take k ws) (sym (add-one i))))
+    (ap (λ (v : Word). map (idOf ns) (take i ws) ++ (idOf ns v ∷ [])) q ∙ sym (map-append (idOf ns) (take i ws) (getD ws i [] ∷ []))
+    ∙ ap (map (idOf ns)) (sym (take-suc ws i [] l) ∙ ap (λ (k : ℕ). take k ws) (sym (add-one i))))
 
 -- an id is at most the count of the names
 pub id-small : (ns : List Word) (w : Word) → idOf ns w ≤ length ns
@@ -97,10 +97,10 @@ id-small (n ∷ ns) w = go (equal w n) (id-small ns w)
     go false h = omega (arith, h)
 
 -- what the three tables are after the stores of one definition
-pub added : {text names nodes operands names' nodes' operands' : List ℕ} {d n u : ℕ} (x : Definition) (next : ℕ) → next ≡ u + length (x .reads) → Listed text names' (n + 1)
-    → namesIn text names' (n + 1) ≡ namesIn text names n ++ (x .name ∷ []) → take (nodePlace (n + 1)) nodes' ≡ take (nodePlace n) nodes ++ rowNumbers (rowMeant d (x .kind) next)
-    → take next operands' ≡ take u operands ++ map (idOf (namesIn text names n)) (x .reads) → length nodes' ≡ length nodes → length operands' ≡ length operands
-    → Added text d x names nodes operands n u names' nodes' operands'
+pub added : {names nodes operands names' nodes' operands' : List ℕ} {d n u : ℕ} (x : Definition) (next : ℕ) → next ≡ u + length (x .reads) → Listed names' (n + 1)
+    → namesIn names' (n + 1) ≡ namesIn names n ++ (x .name ∷ []) → take (nodePlace (n + 1)) nodes' ≡ take (nodePlace n) nodes ++ rowNumbers (rowMeant d (x .kind) next)
+    → take next operands' ≡ take u operands ++ map (idOf (namesIn names n)) (x .reads) → length nodes' ≡ length nodes → length operands' ≡ length operands
+    → Added d x names nodes operands n u names' nodes' operands'
 added x next e l m r i w o =
     record { listed = l; named = m; rows = rw (sym e) r; ids = rw (sym e) i; wide = w; long = o }
 
@@ -135,18 +135,18 @@ fresh-at old (n ∷ new) (suc i) f l =
 
 -- the i-th of k inputs
 module _ (ds : List Definition) (n : ℕ) (ws : List Word) (i k : ℕ) (l : i < k) (m : k ≤ length ws) where
-  pub input-new : {text names nodes operands : List ℕ} {d u : ℕ} → fresh (namesOf ds) (take k ws) ≡ true → Kept text d (ds ++ inputsOf (take i ws)) names nodes operands (n + i) u → has (namesIn text names (n + i)) (getD ws i []) ≡ false
+  pub input-new : {names nodes operands : List ℕ} {d u : ℕ} → fresh (namesOf ds) (take k ws) ≡ true → Kept d (ds ++ inputsOf (take i ws)) names nodes operands (n + i) u → has (namesIn names (n + i)) (getD ws i []) ≡ false
   input-new f q =
       ap (λ (ns : List Word). has ns (getD ws i [])) (q .named ∙ names-inputs ds (take i ws) ∙ ap (λ (ws : List Word). namesOf ds ++ ws) (sym (take-take i k ws (omega (arith, l)))))
       ∙ ap (has (namesOf ds ++ take i (take k ws))) (sym (getD-take k ws i [] l)) ∙ fresh-at (namesOf ds) (take k ws) i f (omega (arith, length-take-le k ws m))
 
-  pub input-more : {text names nodes operands names' nodes' operands' : List ℕ} {d u : ℕ} → Kept text d (ds ++ inputsOf (take i ws)) names nodes operands (n + i) u
-      → Added text d (definition (getD ws i []) input []) names nodes operands (n + i) u names' nodes' operands'
-      → Kept text d (ds ++ inputsOf (take (i + 1) ws)) names' nodes' operands' (n + (i + 1)) u
+  pub input-more : {names nodes operands names' nodes' operands' : List ℕ} {d u : ℕ} → Kept d (ds ++ inputsOf (take i ws)) names nodes operands (n + i) u
+      → Added d (definition (getD ws i []) input []) names nodes operands (n + i) u names' nodes' operands'
+      → Kept d (ds ++ inputsOf (take (i + 1) ws)) names' nodes' operands' (n + (i + 1)) u
   input-more q a = kept-same more (kept-added q (definition (getD ws i []) input []) (omega arith) (omega arith) refl (omega arith) a)
     where
       more : (ds ++ inputsOf (take i ws)) ++ (definition (getD ws i []) input [] ∷ []) ≡ ds ++ inputsOf (take (i + 1) ws)
       more =
           append-assoc ds (inputsOf (take i ws)) (definition (getD ws i []) input [] ∷ [])
           ∙ ap (λ (xs : List Definition). ds ++ xs)
-            (sym (map-append (λ (w : Word). definition w input []) (take i ws) (getD ws i [] ∷ [])) ∙ ap inputsOf (sym (take-suc ws i [] (omega (arith, l, m))) ∙ ap (λ (j : ℕ). take j ws) (sym (add-one i))))
+          (sym (map-append (λ (w : Word). definition w input []) (take i ws) (getD ws i [] ∷ [])) ∙ ap inputsOf (sym (take-suc ws i [] (omega (arith, l, m))) ∙ ap (λ (j : ℕ). take j ws) (sym (add-one i))))

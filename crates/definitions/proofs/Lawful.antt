@@ -14,30 +14,64 @@ use Rattle.maps.specs.Sheet.{Kind, input, logic, box}
 use Rattle.maps.specs.Limits.{sizeRange, operandsMost}
 use Rattle.maps.proofs.Over.{and-true}
 use Rattle.blif.specs.Words.{Word}
-use Rattle.blif.specs.Subset.{Statement, inputs, latch, initOf, lastOf, namesLine}
+use Rattle.blif.specs.Subset.{Statement, model, inputs, outputs, names, row, latch, end, outside, initOf, lastOf, namesLine}
 use Rattle.blif.specs.Names.{Definition, definition, kindOf, inputsOf, defined, namesOf, readsOf, has, fresh, resolves}
 use Rattle.blif.specs.Limits.{nameMost, named, fewOperands, someNodes, withinLimits}
 use Rattle.definitions.specs.Kept.{Lawful}
+use Rattle.definitions.proofs.RowLaws.{all-append}
+
+-- names of at most 31 bytes
+abbrev short : List Word → Bool
+short ws = all (λ (w : Word). leb (length w) nameMost) ws
+
+pub short-at : (ws : List Word) (i : ℕ) → all (λ (w : Word). leb (length w) nameMost) ws ≡ true → i < length ws → length (getD ws i []) ≤ nameMost
+short-at [] i h l = absurd (not-suc-le-zero l)
+short-at (w ∷ ws) zero h l = leb-true (length w) nameMost (and-true (leb (length w) nameMost) (short ws) h .0)
+short-at (w ∷ ws) (suc i) h l = short-at ws i (and-true (leb (length w) nameMost) (short ws) h .1) (omega arith)
+
+-- a line of inputs: its names are all of its words
+inputs-names : (ws : List Word) → namesOf (inputsOf ws) ≡ ws
+inputs-names [] = refl
+inputs-names (w ∷ ws) = ap (λ (ns : List Word). w ∷ ns) (inputs-names ws)
+
+-- the names that a line defines are names on it
+defined-short : (s : Statement) → short (named s) ≡ true → short (namesOf (defined s)) ≡ true
+defined-short (model n) h = refl
+defined-short (inputs ns) h = ap short (inputs-names ns) ∙ h
+defined-short (outputs ns) h = refl
+defined-short (names us o) h = and-true (short us) (short (o ∷ [])) (sym (all-append (λ (w : Word). leb (length w) nameMost) us (o ∷ [])) ∙ h) .1
+defined-short row h = refl
+defined-short (latch i o) h = and-true (leb (length i) nameMost) (short (o ∷ [])) h .1
+defined-short end h = refl
+defined-short outside h = refl
 
 -- the parts of what is lawful
 pub record Parts (ds : List Definition) (s : Statement) : Type 0 where
   pub reads : all (has (namesOf ds)) (readsOf (defined s)) ≡ true
   pub new : fresh (namesOf ds) (namesOf (defined s)) ≡ true
+  pub short : all (λ (w : Word). leb (length w) nameMost) (namesOf (defined s)) ≡ true
   pub few : fewOperands s ≡ true
   pub room : length ds + length (defined s) ≤ sizeRange .high
 
 pub lawful-parts : (ds : List Definition) (s : Statement) → Lawful ds s → Parts ds s
 lawful-parts ds s h =
     let r = and-true (all (has (namesOf ds)) (readsOf (defined s))) (fresh (namesOf ds) (namesOf (defined s))) (h .resolved) in
-    let short = all (λ (w : Word). leb (length w) nameMost) (named s) in
-    let three = and-true (short && fewOperands s && leb (length ds + length (defined s)) (sizeRange .high)) (someNodes (length ds) s) (h .limited) in
-    let two = and-true (short && fewOperands s) (leb (length ds + length (defined s)) (sizeRange .high)) (three .0) in
-    record { reads = r .0; new = r .1; few = and-true short (fewOperands s) (two .0) .1; room = leb-true (length ds + length (defined s)) (sizeRange .high) (two .1) }
+    let three = and-true (short (named s) && fewOperands s && leb (length ds + length (defined s)) (sizeRange .high)) (someNodes (length ds) s) (h .limited) in
+    let two = and-true (short (named s) && fewOperands s) (leb (length ds + length (defined s)) (sizeRange .high)) (three .0) in
+    let one = and-true (short (named s)) (fewOperands s) (two .0) in
+    record {
+      reads = r .0;
+      new = r .1;
+      short = defined-short s (one .0);
+      few = one .1;
+      room = leb-true (length ds + length (defined s)) (sizeRange .high) (two .1);
+    }
 
 -- a line that defines one node
 pub record One (ds : List Definition) (x : Definition) : Type 0 where
   pub reads : all (has (namesOf ds)) (x .reads) ≡ true
   pub new : has (namesOf ds) (x .name) ≡ false
+  pub short : length (x .name) ≤ nameMost
   pub room : length ds < sizeRange .high
 
 pub lawful-one : (ds : List Definition) (s : Statement) (x : Definition) → defined s ≡ x ∷ [] → Lawful ds s → One ds x
@@ -46,6 +80,7 @@ lawful-one ds s x e h =
     record {
       reads = ap (all (has (namesOf ds))) (sym (append-nil (x .reads)) ∙ ap readsOf (sym e)) ∙ p .reads;
       new = go (has (namesOf ds) (x .name)) (ap (λ (xs : List Definition). fresh (namesOf ds) (namesOf xs)) (sym e) ∙ p .new);
+      short = short-at (x .name ∷ []) 0 (ap (λ (xs : List Definition). short (namesOf xs)) (sym e) ∙ p .short) (omega arith);
       room = omega (arith, p .room, ap length e);
     }
   where
@@ -90,16 +125,15 @@ pub kind-some : (us : List Word) → (length us ≡ 0 → ⊥) → logic ≡ kin
 kind-some [] l = absurd (l refl)
 kind-some (u ∷ us) l = refl
 
--- a line of inputs: its names are all of its words
-inputs-names : (ws : List Word) → namesOf (inputsOf ws) ≡ ws
-inputs-names [] = refl
-inputs-names (w ∷ ws) = ap (λ (ns : List Word). w ∷ ns) (inputs-names ws)
-
+-- a line of inputs
 pub all-words : (ws : List Word) (n : ℕ) → n ≡ length ws → take n ws ≡ ws
 all-words ws n e = rw e (take-length ws)
 
 pub inputs-new : (ds : List Definition) (ws : List Word) (n : ℕ) → n ≡ length ws → Lawful ds (inputs ws) → fresh (namesOf ds) (take n ws) ≡ true
 inputs-new ds ws n e h = ap (fresh (namesOf ds)) (all-words ws n e ∙ sym (inputs-names ws)) ∙ lawful-parts ds (inputs ws) h .new
+
+pub inputs-short : (ds : List Definition) (ws : List Word) (n : ℕ) → n ≡ length ws → Lawful ds (inputs ws) → all (λ (w : Word). leb (length w) nameMost) (take n ws) ≡ true
+inputs-short ds ws n e h = ap short (all-words ws n e ∙ sym (inputs-names ws)) ∙ lawful-parts ds (inputs ws) h .short
 
 pub inputs-room : (ds : List Definition) (ws : List Word) → Lawful ds (inputs ws) → length ds + length ws ≤ sizeRange .high
 inputs-room ds ws h = omega (arith, lawful-parts ds (inputs ws) h .room, length-map ws (λ (w : Word). definition w input []))

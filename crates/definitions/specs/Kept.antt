@@ -1,4 +1,4 @@
--- How a model is kept while its text is read: names by their positions, nodes as rows, operands as ids.
+-- How a model is kept while its text is read: names in a table, nodes as rows, operands as ids.
 use Prim.Native.Nat.{ℕ, _+_, _*_, _≤_}
 use mathlib.Core.Path.{_≡_}
 use mathlib.Core.Bool.{true, false}
@@ -17,9 +17,9 @@ use Rattle.names.specs.Table.{namesIn, Listed}
 use Rattle.definitions.specs.Rows.{rowsFrom, rowOf, idsOf}
 
 -- the definitions ds of a text: n names and nodes, none of them marked yet, and u operands
-pub record Kept (text : List ℕ) (d : ℕ) (ds : List Definition) (names nodes operands : List ℕ) (n u : ℕ) : Type 0 where
-  pub listed : Listed text names n
-  pub named : namesIn text names n ≡ namesOf ds
+pub record Kept (d : ℕ) (ds : List Definition) (names nodes operands : List ℕ) (n u : ℕ) : Type 0 where
+  pub listed : Listed names n
+  pub named : namesIn names n ≡ namesOf ds
   pub rows : take (nodePlace n) nodes ≡ rowsFrom d (λ w. false) 0 ds
   pub ids : take u operands ≡ idsOf (namesOf ds) ds
   pub closed : all (has (namesOf ds)) (readsOf ds) ≡ true
@@ -28,11 +28,11 @@ pub record Kept (text : List ℕ) (d : ℕ) (ds : List Definition) (names nodes 
   pub long : length operands ≡ sizeRange .high * operandsMost
 
 -- one definition more: its name, its row and its operands stand behind what stood before
-pub record Added (text : List ℕ) (d : ℕ) (x : Definition) (names nodes operands : List ℕ) (n u : ℕ) (names' nodes' operands' : List ℕ) : Type 0 where
-  pub listed : Listed text names' (n + 1)
-  pub named : namesIn text names' (n + 1) ≡ namesIn text names n ++ (x .name ∷ [])
+pub record Added (d : ℕ) (x : Definition) (names nodes operands : List ℕ) (n u : ℕ) (names' nodes' operands' : List ℕ) : Type 0 where
+  pub listed : Listed names' (n + 1)
+  pub named : namesIn names' (n + 1) ≡ namesIn names n ++ (x .name ∷ [])
   pub rows : take (nodePlace (n + 1)) nodes' ≡ take (nodePlace n) nodes ++ rowOf d (λ w. false) (u + length (x .reads)) x
-  pub ids : take (u + length (x .reads)) operands' ≡ take u operands ++ map (idOf (namesIn text names n)) (x .reads)
+  pub ids : take (u + length (x .reads)) operands' ≡ take u operands ++ map (idOf (namesIn names n)) (x .reads)
   pub wide : length nodes' ≡ length nodes
   pub long : length operands' ≡ length operands
 

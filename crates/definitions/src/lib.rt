@@ -3,6 +3,7 @@ ghost use mathlib.Core.Path.{_≡_};
 ghost use mathlib.Core.Bool.{true, false};
 ghost use mathlib.Core.List.{List, [], _∷_, _++_, map};
 ghost use Prim.Native.Nat.{ℕ, _+_, _*_, _<_, _≤_};
+ghost use lib.Dec.{leb};
 ghost use lib.ListN.{length, getD, take, drop};
 ghost use Rattle.maps.specs.Lists.{all};
 ghost use Rattle.maps.specs.Limits.{sizeRange, operandsMost};
@@ -10,7 +11,7 @@ ghost use Rattle.maps.specs.Code.{kindMeant};
 ghost use Rattle.blif.specs.Words.{Word};
 ghost use Rattle.blif.specs.Scan.{wordsAt};
 ghost use Rattle.blif.specs.Names.{Definition, definition, kindOf, namesOf, has, fresh, defined, inputsOf};
-ghost use Rattle.blif.specs.Limits.{textMost};
+ghost use Rattle.blif.specs.Limits.{nameMost};
 ghost use Rattle.blif.specs.Import.{idOf};
 ghost use Rattle.records.specs.Rows.{nodePlace};
 ghost use Rattle.names.specs.Table.{namesIn, Listed};
@@ -74,9 +75,9 @@ pub fn append_reads(
     operands: &mut [u32],
     used: usize,
 ) -> usize
-    requires { ⌜ (reads ≤ length (wordsAt (now text) start)) × Listed (now text) (now names) count × (used + reads ≤ length (now operands)) ⌝ }
+    requires { ⌜ (reads ≤ length (wordsAt (now text) start)) × Listed (now names) count × (used + reads ≤ length (now operands)) ⌝ }
     ensures { λ r. ⌜ wordsAt (now (text .entry)) r ≡ drop reads (wordsAt (now (text .entry)) start) ⌝ }
-    ensures { λ r. ⌜ (take (used + reads) (now (operands .exit)) ≡ take used (now (operands .entry)) ++ map (idOf (namesIn (now (text .entry)) (now (names .entry)) count)) (take reads (wordsAt (now (text .entry)) start)))
+    ensures { λ r. ⌜ (take (used + reads) (now (operands .exit)) ≡ take used (now (operands .entry)) ++ map (idOf (namesIn (now (names .entry)) count)) (take reads (wordsAt (now (text .entry)) start)))
         × (length (now (operands .exit)) ≡ length (now (operands .entry))) ⌝ }
 {
     let mut at = start;
@@ -103,11 +104,11 @@ pub fn keep_node(
     operands: &mut [u32],
     size: Size,
 ) -> usize
-    requires { ⌜ (reads < length (wordsAt (now text) start)) × (length (now text) ≤ textMost) × Listed (now text) (now names) (size .nodes) × (size .nodes < sizeRange .high) ⌝ }
-    requires { ⌜ has (namesIn (now text) (now names) (size .nodes)) (getD (wordsAt (now text) start) reads []) ≡ false ⌝ }
+    requires { ⌜ (reads < length (wordsAt (now text) start)) × (length (getD (wordsAt (now text) start) reads []) ≤ nameMost) × Listed (now names) (size .nodes) × (size .nodes < sizeRange .high) ⌝ }
+    requires { ⌜ has (namesIn (now names) (size .nodes)) (getD (wordsAt (now text) start) reads []) ≡ false ⌝ }
     requires { ⌜ (nodePlace (size .nodes + 1) ≤ length (now nodes)) × (size .operands + reads ≤ length (now operands)) × (size .operands + reads ≤ sizeRange .high * operandsMost) ⌝ }
     ensures { λ r. ⌜ wordsAt (now (text .entry)) r ≡ drop (reads + 1) (wordsAt (now (text .entry)) start) ⌝ }
-    ensures { λ r. ⌜ Added (now (text .entry)) delay (definition (getD (wordsAt (now (text .entry)) start) reads []) (kindMeant kind) (take reads (wordsAt (now (text .entry)) start)))
+    ensures { λ r. ⌜ Added delay (definition (getD (wordsAt (now (text .entry)) start) reads []) (kindMeant kind) (take reads (wordsAt (now (text .entry)) start)))
         (now (names .entry)) (now (nodes .entry)) (now (operands .entry)) (size .nodes) (size .operands) (now (names .exit)) (now (nodes .exit)) (now (operands .exit)) ⌝ }
 {
     let n = size.nodes;
@@ -130,12 +131,12 @@ pub fn keep_inputs(
     operands: &mut [u32],
     size: Size,
 ) -> Size
-    requires { ⌜ (k ≤ length (wordsAt (now text) start)) × (length (now text) ≤ textMost) × (size .nodes + k ≤ sizeRange .high) ⌝ }
-    requires { ⌜ ((ds : List Definition) × Kept (now text) delay ds (now names) (now nodes) (now operands) (size .nodes) (size .operands)
+    requires { ⌜ (k ≤ length (wordsAt (now text) start)) × (all (λ w. leb (length w) nameMost) (take k (wordsAt (now text) start)) ≡ true) × (size .nodes + k ≤ sizeRange .high) ⌝ }
+    requires { ⌜ ((ds : List Definition) × Kept delay ds (now names) (now nodes) (now operands) (size .nodes) (size .operands)
         × (fresh (namesOf ds) (take k (wordsAt (now text) start)) ≡ true)) ⌝ }
-    ensures { λ r. ⌜ ((ds : List Definition) → Kept (now (text .entry)) delay ds (now (names .entry)) (now (nodes .entry)) (now (operands .entry)) (size .nodes) (size .operands)
+    ensures { λ r. ⌜ ((ds : List Definition) → Kept delay ds (now (names .entry)) (now (nodes .entry)) (now (operands .entry)) (size .nodes) (size .operands)
         → fresh (namesOf ds) (take k (wordsAt (now (text .entry)) start)) ≡ true
-        → Kept (now (text .entry)) delay (ds ++ inputsOf (take k (wordsAt (now (text .entry)) start))) (now (names .exit)) (now (nodes .exit)) (now (operands .exit)) (r .nodes) (r .operands)) ⌝ }
+        → Kept delay (ds ++ inputsOf (take k (wordsAt (now (text .entry)) start))) (now (names .exit)) (now (nodes .exit)) (now (operands .exit)) (r .nodes) (r .operands)) ⌝ }
 {
     let mut at = start;
     let mut i: usize = 0;
@@ -174,13 +175,13 @@ pub fn keep_one(
     operands: &mut [u32],
     size: Size,
 ) -> Size
-    requires { ⌜ (reads < length (wordsAt (now text) rest)) × (length (now text) ≤ textMost) × (size .nodes < sizeRange .high) × (reads ≤ operandsMost) ⌝ }
-    requires { ⌜ ((ds : List Definition) × Kept (now text) delay ds (now names) (now nodes) (now operands) (size .nodes) (size .operands)
+    requires { ⌜ (reads < length (wordsAt (now text) rest)) × (length (getD (wordsAt (now text) rest) reads []) ≤ nameMost) × (size .nodes < sizeRange .high) × (reads ≤ operandsMost) ⌝ }
+    requires { ⌜ ((ds : List Definition) × Kept delay ds (now names) (now nodes) (now operands) (size .nodes) (size .operands)
         × (has (namesOf ds) (getD (wordsAt (now text) rest) reads []) ≡ false)) ⌝ }
-    ensures { λ r. ⌜ ((ds : List Definition) → Kept (now (text .entry)) delay ds (now (names .entry)) (now (nodes .entry)) (now (operands .entry)) (size .nodes) (size .operands)
+    ensures { λ r. ⌜ ((ds : List Definition) → Kept delay ds (now (names .entry)) (now (nodes .entry)) (now (operands .entry)) (size .nodes) (size .operands)
         → all (has (namesOf ds)) (take reads (wordsAt (now (text .entry)) rest)) ≡ true → has (namesOf ds) (getD (wordsAt (now (text .entry)) rest) reads []) ≡ false
-        → Kept (now (text .entry)) delay (ds ++ (definition (getD (wordsAt (now (text .entry)) rest) reads []) (kindMeant kind) (take reads (wordsAt (now (text .entry)) rest)) ∷ []))
-          (now (names .exit)) (now (nodes .exit)) (now (operands .exit)) (r .nodes) (r .operands)) ⌝ }
+        → Kept delay (ds ++ (definition (getD (wordsAt (now (text .entry)) rest) reads []) (kindMeant kind) (take reads (wordsAt (now (text .entry)) rest)) ∷ []))
+        (now (names .exit)) (now (nodes .exit)) (now (operands .exit)) (r .nodes) (r .operands)) ⌝ }
 {
     keep_node(text, rest, reads, kind, delay, names, nodes, operands, size);
     Size {
@@ -211,17 +212,15 @@ pub fn keep_line(
     operands: &mut [u32],
     size: Size,
 ) -> Size
-    requires { ⌜ (count ≡ length (wordsAt (now text) rest)) × Shaped statement count × (length (now text) ≤ textMost) ⌝ }
-    requires { ⌜ ((ds : List Definition) × Kept (now text) delay ds (now names) (now nodes) (now operands) (size .nodes) (size .operands)
+    requires { ⌜ (count ≡ length (wordsAt (now text) rest)) × Shaped statement count ⌝ }
+    requires { ⌜ ((ds : List Definition) × Kept delay ds (now names) (now nodes) (now operands) (size .nodes) (size .operands)
         × Lawful ds (statementMeant statement (wordsAt (now text) rest))) ⌝ }
-    ensures { λ r. ⌜ ((ds : List Definition) → Kept (now (text .entry)) delay ds (now (names .entry)) (now (nodes .entry)) (now (operands .entry)) (size .nodes) (size .operands)
+    ensures { λ r. ⌜ ((ds : List Definition) → Kept delay ds (now (names .entry)) (now (nodes .entry)) (now (operands .entry)) (size .nodes) (size .operands)
         → Lawful ds (statementMeant statement (wordsAt (now (text .entry)) rest))
-        → Kept (now (text .entry)) delay (ds ++ defined (statementMeant statement (wordsAt (now (text .entry)) rest))) (now (names .exit)) (now (nodes .exit)) (now (operands .exit)) (r .nodes) (r .operands)) ⌝ }
+        → Kept delay (ds ++ defined (statementMeant statement (wordsAt (now (text .entry)) rest))) (now (names .exit)) (now (nodes .exit)) (now (operands .exit)) (r .nodes) (r .operands)) ⌝ }
 {
     match statement {
-        Statement::Inputs => keep_inputs(
-            text, rest, count, delay, names, nodes, operands, size,
-        ),
+        Statement::Inputs => keep_inputs(text, rest, count, delay, names, nodes, operands, size),
         Statement::Names => keep_one(
             text,
             rest,

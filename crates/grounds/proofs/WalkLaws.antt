@@ -34,9 +34,9 @@ passed s at first rest k i l m e f =
     }
 
 -- a name is in the table exactly if its id is below the count
-module _ (text table : List ℕ) (n id : ℕ) (w : Word) (e : id ≡ idOf (namesIn text table n) w) where
-  pub in-table : id < n → has (namesIn text table n) w ≡ true
-  in-table l = has-id (namesIn text table n) w ∙ lt-ltb (idOf (namesIn text table n) w) (length (namesIn text table n)) (omega (arith, l, e, length-names text table n))
+module _ (table : List ℕ) (n id : ℕ) (w : Word) (e : id ≡ idOf (namesIn table n) w) where
+  pub in-table : id < n → has (namesIn table n) w ≡ true
+  in-table l = has-id (namesIn table n) w ∙ lt-ltb (idOf (namesIn table n) w) (length (namesIn table n)) (omega (arith, l, e, length-names table n))
 
-  pub not-in-table : n ≤ id → has (namesIn text table n) w ≡ false
-  not-in-table l = has-id (namesIn text table n) w ∙ le-ltb (idOf (namesIn text table n) w) (length (namesIn text table n)) (omega (arith, l, e, length-names text table n))
+  pub not-in-table : n ≤ id → has (namesIn table n) w ≡ false
+  not-in-table l = has-id (namesIn table n) w ∙ le-ltb (idOf (namesIn table n) w) (length (namesIn table n)) (omega (arith, l, e, length-names table n))

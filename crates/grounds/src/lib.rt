@@ -41,8 +41,8 @@ pub fn skip_words(text: &[u8], start: usize, k: usize) -> usize
 
 // How many of the next k words are names that are defined.
 pub fn count_defined(text: &[u8], start: usize, k: usize, names: &Names, count: usize) -> usize
-    requires { ⌜ (k ≤ length (wordsAt (now text) start)) × Listed (now text) (now names) count ⌝ }
-    ensures { λ r. ⌜ r ≡ length (keep (has (namesIn (now (text .entry)) (now (names .entry)) count)) (take k (wordsAt (now (text .entry)) start))) ⌝ }
+    requires { ⌜ (k ≤ length (wordsAt (now text) start)) × Listed (now names) count ⌝ }
+    ensures { λ r. ⌜ r ≡ length (keep (has (namesIn (now (names .entry)) count)) (take k (wordsAt (now (text .entry)) start))) ⌝ }
 {
     let mut n: usize = 0;
     let mut at = start;
@@ -79,10 +79,10 @@ pub fn all_short(text: &[u8], start: usize, k: usize) -> bool
 
 // Ground 10: whether a line reads only names that are defined, and defines only new ones, each once. Its words stand at `rest`.
 pub fn resolves(text: &[u8], rest: usize, parts: Parts, names: &Names, count: usize) -> bool
-    requires { ⌜ (length (now text) ≤ textMost) × Listed (now text) (now names) count ⌝ }
+    requires { ⌜ (length (now text) ≤ textMost) × Listed (now names) count ⌝ }
     requires { ⌜ (parts .reads + parts .defines ≤ length (wordsAt (now text) rest)) × ((parts .defines ≤ 1) ⊎ (parts .reads + parts .defines ≡ length (wordsAt (now text) rest))) ⌝ }
     ensures { λ r. ⌜ ((s : Subset.Statement) → PartsOf s (wordsAt (now (text .entry)) rest) parts
-        → r ≡ Resolves (namesIn (now (text .entry)) (now (names .entry)) count) (defined s)) ⌝ }
+        → r ≡ Resolves (namesIn (now (names .entry)) count) (defined s)) ⌝ }
 {
     let reads = parts.reads;
     let defines = parts.defines;
@@ -141,8 +141,8 @@ pub fn ground_of(
     names: &Names,
     nodes: usize,
 ) -> Ground
-    requires { ⌜ (length (now text) ≤ textMost) × (count ≡ length (wordsAt (now text) rest)) × Shaped statement count × Listed (now text) (now names) nodes ⌝ }
-    ensures { λ r. ⌜ groundNumber r ≡ faultAfter (namesIn (now (text .entry)) (now (names .entry)) nodes) nodes (statementMeant statement (wordsAt (now (text .entry)) rest)) ⌝ }
+    requires { ⌜ (length (now text) ≤ textMost) × (count ≡ length (wordsAt (now text) rest)) × Shaped statement count × Listed (now names) nodes ⌝ }
+    ensures { λ r. ⌜ groundNumber r ≡ faultAfter (namesIn (now (names .entry)) nodes) nodes (statementMeant statement (wordsAt (now (text .entry)) rest)) ⌝ }
 {
     if is_outside(statement, count) {
         return Ground::Subset;

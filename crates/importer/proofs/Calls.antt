@@ -39,7 +39,7 @@ short-enough text l = le-leb (length text) textMost l
 
 module _ (text : List ℕ) (c : Caller) (M : Model) (f : modelOf text ≡ found M) (h : callable c ≡ true) (l : length text ≤ textMost) where
   -- the rows that are marked and the operands are those of the sheet's records
-  pub all-marked : {names nodes operands : List ℕ} {n u : ℕ} (after : List ℕ) (m : Marked) → m ≡ Is.All → Kept text (delay c) (M .definitions) names nodes operands n u
+  pub all-marked : {names nodes operands : List ℕ} {n u : ℕ} (after : List ℕ) (m : Marked) → m ≡ Is.All → Kept (delay c) (M .definitions) names nodes operands n u
       → OutputsMarked (delay c) M after m → (room : ℕ)
       → writing (recordsIn (c .leaves) (c .top) (c .horizon) (take (nodePlace n) after) (take u operands) []) room ≡ importing text c room
   all-marked {operands = operands} {n = n} {u = u} after m e k o room =
@@ -57,9 +57,9 @@ module _ (text : List ℕ) (c : Caller) (M : Model) (f : modelOf text ≡ found 
       ap (refusal 10) (sym (q .3)) ∙ sym (import-undefined text c M (q .0) (q .1) f (q .2) h (short-enough text l) room)
 
 -- nothing is kept at first
-pub nothing-kept : (text : List ℕ) (d : ℕ) → Kept text d [] (replicate 1024 0) (replicate 1280 0) (replicate 1536 0) 0 0
-nothing-kept text d =
-    record { listed = listed-none text; named = refl; rows = refl; ids = refl; closed = refl; few = omega arith; wide = length-replicate {A = ℕ} 1280 0; long = length-replicate {A = ℕ} 1536 0 }
+pub nothing-kept : (d : ℕ) → Kept d [] (replicate 8960 0) (replicate 1280 0) (replicate 1536 0) 0 0
+nothing-kept d =
+    record { listed = listed-none; named = refl; rows = refl; ids = refl; closed = refl; few = omega arith; wide = length-replicate {A = ℕ} 1280 0; long = length-replicate {A = ℕ} 1536 0 }
 
 -- the model was refused
 pub refused-model : (text : List ℕ) (c : Caller) (d : ℕ) (names nodes operands : List ℕ) (r : M.Model) (w : Refusal) → r ≡ Read.Refused w → ModelRead text d names nodes operands r → callable c ≡ true
@@ -67,8 +67,8 @@ pub refused-model : (text : List ℕ) (c : Caller) (d : ℕ) (names nodes operan
 refused-model text c d names nodes operands r w e h k l room =
     sym (import-faulty text c (numberOf w) (placeOf w) (subst (ModelRead text d names nodes operands) e h) k (short-enough text l) room)
 
-pub kept-delay : {text names nodes operands : List ℕ} {d e n u : ℕ} {ds : List Definition} → d ≡ e → Kept text d ds names nodes operands n u → Kept text e ds names nodes operands n u
-kept-delay {text} {names} {nodes} {operands} {n = n} {u = u} {ds = ds} q k = subst (λ (x : ℕ). Kept text x ds names nodes operands n u) q k
+pub kept-delay : {names nodes operands : List ℕ} {d e n u : ℕ} {ds : List Definition} → d ≡ e → Kept d ds names nodes operands n u → Kept e ds names nodes operands n u
+kept-delay {names} {nodes} {operands} {n = n} {u = u} {ds = ds} q k = subst (λ (x : ℕ). Kept x ds names nodes operands n u) q k
 
 -- what is looked at first
 pub barred-caller : (text : List ℕ) (c : Caller) → callable c ≡ false → (room : ℕ) → refusal 11 0 ≡ importing text c room

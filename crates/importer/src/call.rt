@@ -33,9 +33,9 @@ pub fn write_model(
     size: Size,
     buffer: &mut [u8],
 ) -> Outcome
-    requires { ⌜ (length (now text) ≤ textMost) × ((d : ℕ) × (M : Blif.Model) × Kept (now text) d (M .definitions) (now names) (now nodes) (now operands) (size .nodes) (size .operands) × (modelOf (now text) ≡ found M)) ⌝ }
+    requires { ⌜ (length (now text) ≤ textMost) × ((d : ℕ) × (M : Blif.Model) × Kept d (M .definitions) (now names) (now nodes) (now operands) (size .nodes) (size .operands) × (modelOf (now text) ≡ found M)) ⌝ }
     ensures { λ r. ⌜ ((c : Caller) (M : Blif.Model) → callable c ≡ true → c .leaves ≡ leaves → c .top ≡ top → c .horizon ≡ horizon
-        → Kept (now (text .entry)) (Delay c) (M .definitions) (now (names .entry)) (now (nodes .entry)) (now (operands .entry)) (size .nodes) (size .operands) → modelOf (now (text .entry)) ≡ found M
+        → Kept (Delay c) (M .definitions) (now (names .entry)) (now (nodes .entry)) (now (operands .entry)) (size .nodes) (size .operands) → modelOf (now (text .entry)) ≡ found M
         → Answered (importing (now (text .entry)) c (length (now (buffer .entry)))) (numberAnswered r) (placeAnswered r) (now (buffer .entry)) (now (buffer .exit))) ⌝ }
 {
     let n = size.nodes * 5;
@@ -71,7 +71,7 @@ pub fn import_text(
     ensures { λ r. ⌜ ((c : Caller) → callable c ≡ true → c .leaves ≡ leaves → c .top ≡ top → c .horizon ≡ horizon → Delay c ≡ delay
         → Answered (importing (now (text .entry)) c (length (now (buffer .entry)))) (numberAnswered r) (placeAnswered r) (now (buffer .entry)) (now (buffer .exit))) ⌝ }
 {
-    let mut names = [0u32; 1024];
+    let mut names = [0u32; 8960];
     let mut nodes = [0u32; 1280];
     let mut operands = [0u32; 1536];
     let model = read_model(text, delay, &mut names, &mut nodes, &mut operands);

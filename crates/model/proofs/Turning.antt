@@ -33,24 +33,27 @@ use Rattle.model.specs.declared.line.Turn.the-variants.{Next, Refused}
 
 module _ (text : List ℕ) (d at : ℕ) (stage : Stage) (M : Model) where
   -- a line without a word leaves all as it is
-  pub turn-empty : {names nodes operands : List ℕ} → (s : State) → s .stage ≡ stage → wordsAt text at ≡ [] → Kept text d (M .definitions) names nodes operands (s .size .nodes) (s .size .operands)
+  pub turn-empty : {names nodes operands : List ℕ} → (s : State) → s .stage ≡ stage → wordsAt text at ≡ [] → Kept d (M .definitions) names nodes operands (s .size .nodes) (s .size .operands)
       → Turned text d at stage M names nodes operands (Next s)
-  turn-empty s q e k =
-      (M, k, λ past ls.
-          ap (λ (ws : List Word). modelFrom past (stageMeant stage) M (withWords (1 + newlines (take at text)) ws ls)) e
-          ∙ ap (λ (g : Stage). modelFrom past (stageMeant g) M ls) (sym q))
+  turn-empty s q e k = (
+    M,
+    k,
+    λ past ls.
+        ap (λ (ws : List Word). modelFrom past (stageMeant stage) M (withWords (1 + newlines (take at text)) ws ls)) e
+        ∙ ap (λ (g : Stage). modelFrom past (stageMeant g) M ls) (sym q),
+  )
 
   module _ (w : Word) (ws : List Word) (e : wordsAt text at ≡ w ∷ ws) where
     judge : (past : ℕ) (ls : List Line) → lineThen text d at stage M past ls
         ≡ judged (fault M (statement (stageMeant stage) (w ∷ ws))) (1 + newlines (take at text))
-          (modelFrom past (stageAfter (stageMeant stage) (statement (stageMeant stage) (w ∷ ws))) (extend M (1 + newlines (take at text)) (statement (stageMeant stage) (w ∷ ws))) ls)
+        (modelFrom past (stageAfter (stageMeant stage) (statement (stageMeant stage) (w ∷ ws))) (extend M (1 + newlines (take at text)) (statement (stageMeant stage) (w ∷ ws))) ls)
     unfolding modelFrom
     judge past ls = ap (λ (ws : List Word). modelFrom past (stageMeant stage) M (withWords (1 + newlines (take at text)) ws ls)) e
 
     -- a line without fault
     pub turn-next : {names nodes operands : List ℕ} → (s : State) → fault M (statement (stageMeant stage) (w ∷ ws)) ≡ 0
         → stageMeant (s .stage) ≡ stageAfter (stageMeant stage) (statement (stageMeant stage) (w ∷ ws))
-        → Kept text d (M .definitions ++ defined (statement (stageMeant stage) (w ∷ ws))) names nodes operands (s .size .nodes) (s .size .operands)
+        → Kept d (M .definitions ++ defined (statement (stageMeant stage) (w ∷ ws))) names nodes operands (s .size .nodes) (s .size .operands)
         → Turned text d at stage M names nodes operands (Next s)
     turn-next s f g k =
         (extend M (1 + newlines (take at text)) (statement (stageMeant stage) (w ∷ ws)), k, λ past ls. judge past ls ∙ rw (f, g) refl)
@@ -60,17 +63,17 @@ module _ (text : List ℕ) (d at : ℕ) (stage : Stage) (M : Model) where
         → fault M (statement (stageMeant stage) (w ∷ ws)) ≡ suc k → (past : ℕ) (ls : List Line) → lineThen text d at stage M past ls ≡ faulty (numberOf why) (placeOf why)
     turn-refused why k n p f past ls = judge past ls ∙ rw (f, n, p) refl
 
-module _ {text names nodes operands : List ℕ} {d n u : ℕ} (M : Model) (k : Kept text d (M .definitions) names nodes operands n u) where
-  same-fault : (s : Statement) → faultAfter (namesIn text names n) n s ≡ fault M s
+module _ {names nodes operands : List ℕ} {d n u : ℕ} (M : Model) (k : Kept d (M .definitions) names nodes operands n u) where
+  same-fault : (s : Statement) → faultAfter (namesIn names n) n s ≡ fault M s
   same-fault s =
       ap (λ (ns : List Word). faultAfter ns n s) (k .named) ∙ ap (λ (m : ℕ). faultAfter (namesOf (M .definitions)) m s) (sym (kept-size k))
 
   -- the ground that is found by the names and nodes that are kept is the line's
-  pub found-fault : (g h : Ground) (s t : Statement) → groundNumber g ≡ faultAfter (namesIn text names n) n s → g ≡ h → s ≡ t → fault M t ≡ groundNumber h
+  pub found-fault : (g h : Ground) (s t : Statement) → groundNumber g ≡ faultAfter (namesIn names n) n s → g ≡ h → s ≡ t → fault M t ≡ groundNumber h
   found-fault g h s t e q r = ap (fault M) (sym r) ∙ sym (same-fault s) ∙ sym e ∙ ap groundNumber q
 
   -- a line without a ground is lawful
-  pub good-lawful : (g : Ground) (s : Statement) → groundNumber g ≡ faultAfter (namesIn text names n) n s → g ≡ Good → Lawful (M .definitions) s
+  pub good-lawful : (g : Ground) (s : Statement) → groundNumber g ≡ faultAfter (namesIn names n) n s → g ≡ Good → Lawful (M .definitions) s
   good-lawful g s e q = go (isOutside s) (resolves (namesOf (M .definitions)) (defined s)) (withinLimits (length (M .definitions)) s) refl refl (found-fault g Good s s e q refl)
     where
       go : (a b c : Bool) → resolves (namesOf (M .definitions)) (defined s) ≡ b → withinLimits (length (M .definitions)) s ≡ c → _≡_ {A = ℕ} (cond a 9 (cond (not b) 10 (cond c 0 11))) 0 → Lawful (M .definitions) s
@@ -86,11 +89,11 @@ linesFrom text at = wordLines (joined (1 + newlines (take at text)) (lines (drop
 -- how far reading has come: what is kept, and the lines from here on, decide the model
 pub record Reached (text : List ℕ) (d at : ℕ) (names nodes operands : List ℕ) (s : State) : Type 0 where
   pub model : Model
-  pub kept : Kept text d (model .definitions) names nodes operands (s .size .nodes) (s .size .operands)
+  pub kept : Kept d (model .definitions) names nodes operands (s .size .nodes) (s .size .operands)
   pub rest : modelOf text ≡ modelFrom (length (lines text) + 1) (stageMeant (s .stage)) model (linesFrom text at)
 
 pub reach-first : (text : List ℕ) (d : ℕ) {names nodes operands : List ℕ} → (s : State) → stageMeant (s .stage) ≡ first
-    → Kept text d [] names nodes operands (s .size .nodes) (s .size .operands) → Reached text d 0 names nodes operands s
+    → Kept d [] names nodes operands (s .size .nodes) (s .size .operands) → Reached text d 0 names nodes operands s
 unfolding modelOf
 reach-first text d s f k =
     record {

@@ -31,19 +31,19 @@ module _ (text : List ℕ) (d : ℕ) where
   -- the line was read after the model M: the lines after it go on from what is kept, or it is refused whatever follows
   abbrev pub Turned : (at : ℕ) → Stage → Model → (names nodes operands : List ℕ) → Turn → Type 0
   Turned at stage M names nodes operands (Next s) =
-      (N : Model) × Kept text d (N .definitions) names nodes operands (s .size .nodes) (s .size .operands)
+      (N : Model) × Kept d (N .definitions) names nodes operands (s .size .nodes) (s .size .operands)
       × ((past : ℕ) (ls : List Line) → lineThen at stage M past ls ≡ modelFrom past (stageMeant (s .stage)) N ls)
   Turned at stage M names nodes operands (Refused w) = (past : ℕ) (ls : List Line) → lineThen at stage M past ls ≡ faulty (numberOf w) (placeOf w)
 
   -- all lines were read, or one was refused
   abbrev pub LinesRead : (names nodes operands : List ℕ) → Turn → Type 0
   LinesRead names nodes operands (Next s) =
-      (N : Model) × Kept text d (N .definitions) names nodes operands (s .size .nodes) (s .size .operands)
+      (N : Model) × Kept d (N .definitions) names nodes operands (s .size .nodes) (s .size .operands)
       × (modelOf text ≡ ended (length (lines text) + 1) (stageMeant (s .stage)) N)
   LinesRead names nodes operands (Refused w) = modelOf text ≡ faulty (numberOf w) (placeOf w)
 
   -- the model of the text is kept, or the first fault is told
   abbrev pub ModelRead : (names nodes operands : List ℕ) → Code.Model → Type 0
   ModelRead names nodes operands (Codes.Read z) =
-      (N : Model) × Kept text d (N .definitions) names nodes operands (z .nodes) (z .operands) × (modelOf text ≡ found N)
+      (N : Model) × Kept d (N .definitions) names nodes operands (z .nodes) (z .operands) × (modelOf text ≡ found N)
   ModelRead names nodes operands (Codes.Refused w) = modelOf text ≡ faulty (numberOf w) (placeOf w)

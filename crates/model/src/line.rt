@@ -47,8 +47,8 @@ pub fn read_words(
     operands: &mut [u32],
 ) -> Turn
     requires { ⌜ (at < length (now text)) × (length (now text) ≤ textMost) × (drop first (now text) ≡ from endsBlanks (drop at (now text))) × (atLineEnd (drop first (now text)) ≡ false) ⌝ }
-    requires { ⌜ ((M : Model) × Kept (now text) delay (M .definitions) (now names) (now nodes) (now operands) (state .size .nodes) (state .size .operands)) ⌝ }
-    ensures { λ r. ⌜ ((M : Model) → Kept (now (text .entry)) delay (M .definitions) (now (names .entry)) (now (nodes .entry)) (now (operands .entry)) (state .size .nodes) (state .size .operands)
+    requires { ⌜ ((M : Model) × Kept delay (M .definitions) (now names) (now nodes) (now operands) (state .size .nodes) (state .size .operands)) ⌝ }
+    ensures { λ r. ⌜ ((M : Model) → Kept delay (M .definitions) (now (names .entry)) (now (nodes .entry)) (now (operands .entry)) (state .size .nodes) (state .size .operands)
         → Turned (now (text .entry)) delay at (state .stage) M (now (names .exit)) (now (nodes .exit)) (now (operands .exit)) r) ⌝ }
 {
     let stage = state.stage;
@@ -63,7 +63,14 @@ pub fn read_words(
         Ground::Limit => Turn::Refused(Refusal::Limit(line_number(text, at))),
         Ground::Good => {
             let kept = keep_line(
-                text, rest, statement, count, delay, names, nodes, operands,
+                text,
+                rest,
+                statement,
+                count,
+                delay,
+                names,
+                nodes,
+                operands,
                 size,
             );
             let next = stage_after(stage, statement, count);
@@ -86,8 +93,8 @@ pub fn read_line(
     operands: &mut [u32],
 ) -> Turn
     requires { ⌜ (at < length (now text)) × (length (now text) ≤ textMost) ⌝ }
-    requires { ⌜ ((M : Model) × Kept (now text) delay (M .definitions) (now names) (now nodes) (now operands) (state .size .nodes) (state .size .operands)) ⌝ }
-    ensures { λ r. ⌜ ((M : Model) → Kept (now (text .entry)) delay (M .definitions) (now (names .entry)) (now (nodes .entry)) (now (operands .entry)) (state .size .nodes) (state .size .operands)
+    requires { ⌜ ((M : Model) × Kept delay (M .definitions) (now names) (now nodes) (now operands) (state .size .nodes) (state .size .operands)) ⌝ }
+    ensures { λ r. ⌜ ((M : Model) → Kept delay (M .definitions) (now (names .entry)) (now (nodes .entry)) (now (operands .entry)) (state .size .nodes) (state .size .operands)
         → Turned (now (text .entry)) delay at (state .stage) M (now (names .exit)) (now (nodes .exit)) (now (operands .exit)) r) ⌝ }
 {
     let first = after_blanks(text, at);

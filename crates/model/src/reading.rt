@@ -7,10 +7,10 @@ ghost use Rattle.blif.specs.Limits.{textMost};
 ghost use Rattle.subset.specs.Meant.{stageMeant};
 ghost use Rattle.definitions.specs.Kept.{Kept};
 ghost use Rattle.model.specs.Turns.{LinesRead, LastStage, ModelRead};
-use definitions::Size;
 use crate::line::State;
 use crate::line::Turn;
 use crate::line::read_line;
+use definitions::Size;
 use maps::Refusal;
 use names::Names;
 use scan::after_line;
@@ -31,7 +31,7 @@ pub fn read_lines(
     nodes: &mut [u32],
     operands: &mut [u32],
 ) -> Turn
-    requires { ⌜ (length (now text) ≤ textMost) × Kept (now text) delay [] (now names) (now nodes) (now operands) 0 0 ⌝ }
+    requires { ⌜ (length (now text) ≤ textMost) × Kept delay [] (now names) (now nodes) (now operands) 0 0 ⌝ }
     ensures { λ r. ⌜ LinesRead (now (text .entry)) delay (now (names .exit)) (now (nodes .exit)) (now (operands .exit)) r ⌝ }
 {
     let mut at: usize = 0;
@@ -75,7 +75,7 @@ pub fn read_model(
     nodes: &mut [u32],
     operands: &mut [u32],
 ) -> Model
-    requires { ⌜ (length (now text) ≤ textMost) × Kept (now text) delay [] (now names) (now nodes) (now operands) 0 0 ⌝ }
+    requires { ⌜ (length (now text) ≤ textMost) × Kept delay [] (now names) (now nodes) (now operands) 0 0 ⌝ }
     ensures { λ r. ⌜ ModelRead (now (text .entry)) delay (now (names .exit)) (now (nodes .exit)) (now (operands .exit)) r ⌝ }
 {
     let turn = read_lines(text, delay, names, nodes, operands);

@@ -2,149 +2,152 @@
 use Prim.Native.Nat.{ℕ, _+_, _≤_, _<_}
 use mathlib.Core.Path.{_≡_, refl, sym, ap, subst, _∙_}
 use mathlib.Core.Bool.{Bool, true, false}
-use mathlib.Core.List.{List, [], _∷_, _++_, map-append}
+use mathlib.Core.List.{List, [], _∷_, _++_}
 use mathlib.Core.Logic.{_⊎_, inl, inr}
 use native.Mathlib.Omega.{arith}
-use native.Mathlib.Numerals.{add-one}
 use native.Mathlib.Nat.{not-suc-le-zero}
 use lib.Dec.{eqb}
 use lib.ListN.{length, getD, set, replicate, length-replicate, length-set}
-use lib.Seq.{ext-getD, getD-set-same, getD-set-other}
+use lib.Seq.{getD-set-same, getD-set-other}
 use borrow.Author.Tests.{eqb-true, eqb-false}
 use Rattle.maps.specs.Limits.{sizeRange}
-use Rattle.maps.specs.Lists.{below}
 use Rattle.maps.proofs.Over.{length-over, getD-over, last-or}
 use Rattle.maps.proofs.Member.{zeros-at}
 use Rattle.blif.specs.Words.{Word}
-use Rattle.blif.specs.Scan.{nameAt}
 use Rattle.blif.specs.Names.{has, fresh}
-use Rattle.names.specs.Table.{buckets, headPlace, linkPlace, startPlace, nameIn, namesIn, bucketOf, bucketIn, lastIn, Listed}
+use Rattle.blif.specs.Limits.{nameMost}
+use Rattle.names.specs.Table.{buckets, headPlace, linkPlace, rowPlace, sizeIn, nameIn, namesIn, bucketOf, bucketIn, lastIn, Listed, Stored}
 use Rattle.names.proofs.Ids.{fresh-more}
 use Rattle.names.proofs.Buckets.{last-new, last-old, last-same}
+use Rattle.names.proofs.Rows.{over-same, over-more, name-same, stored-name}
 
-pub length-names : (text table : List ℕ) (n : ℕ) → length (namesIn text table n) ≡ n
-length-names text table n = length-over (nameIn text table) [] n
+pub length-names : (table : List ℕ) (n : ℕ) → length (namesIn table n) ≡ n
+length-names table n = length-over (nameIn table) [] n
 
-pub name-of : (text table : List ℕ) (n i : ℕ) → i < n → getD (namesIn text table n) i [] ≡ nameIn text table i
-name-of text table n i l = getD-over (nameIn text table) [] n i l
+pub name-of : (table : List ℕ) (n i : ℕ) → i < n → getD (namesIn table n) i [] ≡ nameIn table i
+name-of table n i l = getD-over (nameIn table) [] n i l
 
 pub bucket-inside : (w : Word) → bucketOf w < buckets
 bucket-inside w = omega arith
 
-pub listed-none : (text : List ℕ) → Listed text (replicate 1024 0) 0
+pub listed-none : Listed (replicate 8960 0) 0
 unfolding lastIn
-listed-none text = record {
-  size = length-replicate {A = ℕ} 1024 0;
+listed-none = record {
+  size = length-replicate {A = ℕ} 8960 0;
   few = omega arith;
-  heads = λ b l. zeros-at 1024 b;
+  short = λ i l. absurd (not-suc-le-zero l);
+  heads = λ b l. zeros-at 8960 b;
   links = λ i l. absurd (not-suc-le-zero l);
   once = refl;
 }
 
--- name n, which begins at a position, is put into the table at the head of bucket b
-abbrev withStart : (table : List ℕ) → (n at : ℕ) → List ℕ
-withStart table n at = set table (startPlace n) at
+-- name n is put at the head of bucket b
+abbrev withLink : (table : List ℕ) → (n b : ℕ) → List ℕ
+withLink table n b = set table (linkPlace n) (getD table (headPlace b) 0)
 
-abbrev withLink : (table : List ℕ) → (n b at : ℕ) → List ℕ
-withLink table n b at = set (withStart table n at) (linkPlace n) (getD table (headPlace b) 0)
-
-abbrev pub withName : (table : List ℕ) → (n b at : ℕ) → List ℕ
-withName table n b at = set (withLink table n b at) (headPlace b) (n + 1)
+abbrev pub withName : (table : List ℕ) → (n b : ℕ) → List ℕ
+withName table n b = set (withLink table n b) (headPlace b) (n + 1)
 
 -- each cell of that table
-module _ (table : List ℕ) (n b at : ℕ) where
-  with-size : length (withName table n b at) ≡ length table
-  with-size = length-set (withLink table n b at) (headPlace b) (n + 1) ∙ length-set (withStart table n at) (linkPlace n) (getD table (headPlace b) 0) ∙ length-set table (startPlace n) at
+module _ (table : List ℕ) (n b : ℕ) where
+  with-size : length (withName table n b) ≡ length table
+  with-size = length-set (withLink table n b) (headPlace b) (n + 1) ∙ length-set table (linkPlace n) (getD table (headPlace b) 0)
 
-  with-kept : (p : ℕ) → (p ≡ startPlace n → ⊥) → (p ≡ linkPlace n → ⊥) → (p ≡ headPlace b → ⊥) → getD (withName table n b at) p 0 ≡ getD table p 0
-  with-kept p s l h =
-      getD-set-other (withLink table n b at) (headPlace b) p (n + 1) 0 h
-      ∙ getD-set-other (withStart table n at) (linkPlace n) p (getD table (headPlace b) 0) 0 l
-      ∙ getD-set-other table (startPlace n) p at 0 s
+  with-kept : (p : ℕ) → (p ≡ linkPlace n → ⊥) → (p ≡ headPlace b → ⊥) → getD (withName table n b) p 0 ≡ getD table p 0
+  with-kept p l h = getD-set-other (withLink table n b) (headPlace b) p (n + 1) 0 h ∙ getD-set-other table (linkPlace n) p (getD table (headPlace b) 0) 0 l
 
-  module _ (size : length table ≡ startPlace (sizeRange .high)) (few : n < sizeRange .high) (inside : b < buckets) where
-    with-head : getD (withName table n b at) (headPlace b) 0 ≡ n + 1
-    with-head =
-        getD-set-same (withLink table n b at) (headPlace b) (n + 1) 0
-        (omega (arith, length-set (withStart table n at) (linkPlace n) (getD table (headPlace b) 0), length-set table (startPlace n) at))
+  module _ (size : length table ≡ rowPlace (sizeRange .high)) (few : n < sizeRange .high) (inside : b < buckets) where
+    with-head : getD (withName table n b) (headPlace b) 0 ≡ n + 1
+    with-head = getD-set-same (withLink table n b) (headPlace b) (n + 1) 0 (omega (arith, length-set table (linkPlace n) (getD table (headPlace b) 0)))
 
-    with-link : getD (withName table n b at) (linkPlace n) 0 ≡ getD table (headPlace b) 0
+    with-link : getD (withName table n b) (linkPlace n) 0 ≡ getD table (headPlace b) 0
     with-link =
-        getD-set-other (withLink table n b at) (headPlace b) (linkPlace n) (n + 1) 0 (λ q. omega arith)
-        ∙ getD-set-same (withStart table n at) (linkPlace n) (getD table (headPlace b) 0) 0 (omega (arith, length-set table (startPlace n) at))
+        getD-set-other (withLink table n b) (headPlace b) (linkPlace n) (n + 1) 0 (λ q. omega arith)
+        ∙ getD-set-same table (linkPlace n) (getD table (headPlace b) 0) 0 (omega arith)
 
-    with-start : getD (withName table n b at) (startPlace n) 0 ≡ at
-    with-start =
-        getD-set-other (withLink table n b at) (headPlace b) (startPlace n) (n + 1) 0 (λ q. omega arith)
-        ∙ getD-set-other (withStart table n at) (linkPlace n) (startPlace n) (getD table (headPlace b) 0) 0 (λ q. omega arith)
-        ∙ getD-set-same table (startPlace n) at 0 (omega arith)
-
--- the names of that table, and its lists
-module _ {text table : List ℕ} {n : ℕ} (k : Listed text table n) (few : n < sizeRange .high) (at : ℕ) where
+-- the names of a table with name n in its row and at the head of its bucket, and the lists of that table
+module _ {table stored : List ℕ} {n : ℕ} {w : Word} (k : Listed table n) (few : n < sizeRange .high) (s : Stored table stored n w) where
   abbrev bucket : ℕ
-  bucket = bucketOf (nameAt text at)
+  bucket = bucketOf w
 
   abbrev after : List ℕ
-  after = withName table n bucket at
+  after = withName stored n bucket
 
-  name-kept : (i : ℕ) → i < n → nameIn text after i ≡ nameIn text table i
-  name-kept i l =
-      let b = bucket-inside (nameAt text at) in
-      ap (nameAt text) (with-kept table n bucket at (startPlace i) (λ q. omega arith) (λ q. omega arith) (λ q. omega arith))
+  stored-size : length stored ≡ rowPlace (sizeRange .high)
+  stored-size = s .wide ∙ k .size
 
-  name-new : nameIn text after n ≡ nameAt text at
-  name-new = ap (nameAt text) (with-start table n bucket at (k .size) few (bucket-inside (nameAt text at)))
+  -- all cells before row n but two are kept, and row n is as stored
+  row-kept : (q : ℕ) → rowPlace 0 ≤ q → getD after q 0 ≡ getD stored q 0
+  row-kept q l = with-kept stored n bucket q (λ e. omega arith) (λ e. omega (arith, bucket-inside w))
 
-  last-kept : (b m : ℕ) → m ≤ n → lastIn (bucketIn text after) b m ≡ lastIn (bucketIn text table) b m
-  last-kept b m l = last-same (bucketIn text after) (bucketIn text table) b m (λ i h. ap bucketOf (name-kept i (omega arith)))
+  cell-kept : (q : ℕ) → q < rowPlace n → (q ≡ linkPlace n → ⊥) → (q ≡ headPlace bucket → ⊥) → getD after q 0 ≡ getD table q 0
+  cell-kept q l a b = with-kept stored n bucket q a b ∙ s .kept q l
 
-  -- only cell n of the starts is written, so the first n names stay and the new one stands after them
-  pub names-more : namesIn text after (n + 1) ≡ namesIn text table n ++ (nameAt text at ∷ [])
-  names-more =
-      let p : namesIn text after n ≡ namesIn text table n =
-      ext-getD [] (namesIn text after n) (namesIn text table n) (length-names text after n ∙ sym (length-names text table n))
-      (λ i l. let h : i < n = omega (arith, length-names text after n) in name-of text after n i h ∙ name-kept i h ∙ sym (name-of text table n i h)) in
-      ap (namesIn text after) (add-one n) ∙ map-append (nameIn text after) (below n) (n ∷ [])
-      ∙ ap (λ (ns : List Word). ns ++ (nameIn text after n ∷ [])) p
-      ∙ ap (λ (w : Word). namesIn text table n ++ (w ∷ [])) name-new
+  name-kept : (i : ℕ) → i < n → nameIn after i ≡ nameIn table i
+  name-kept i l = name-same after table i (k .short i l) (λ q a b. row-kept q (omega arith) ∙ s .kept q (omega arith))
 
-  head-more : (b : ℕ) → b < buckets → getD after (headPlace b) 0 ≡ lastIn (bucketIn text after) b (n + 1)
-  head-more b l = go (eqb b bucket) refl
-    where
-      go : (t : Bool) → eqb b bucket ≡ t → getD after (headPlace b) 0 ≡ lastIn (bucketIn text after) b (n + 1)
-      go true e =
-          let q = eqb-true b bucket e in
-          ap (λ (p : ℕ). getD after p 0) q ∙ with-head table n bucket at (k .size) few (bucket-inside (nameAt text at))
-          ∙ sym (last-new (bucketIn text after) b n (ap bucketOf name-new ∙ sym q))
-      go false e =
-          let d = eqb-false b bucket e in
-          with-kept table n bucket at b (λ q. omega arith) (λ q. omega arith) d ∙ k .heads b l ∙ sym (last-kept b n (omega arith))
-          ∙ sym (last-old (bucketIn text after) b n (λ q. d (sym q ∙ ap bucketOf name-new)))
+  size-new : sizeIn after n ≡ length w
+  size-new = row-kept (rowPlace n) (omega arith) ∙ s .size
 
-  link-more : (i : ℕ) → i < n + 1 → getD after (linkPlace i) 0 ≡ lastIn (bucketIn text after) (bucketIn text after i) i
-  link-more i l = go (last-or i n (omega arith))
-    where
-      inside : bucket < buckets
-      inside = bucket-inside (nameAt text at)
+  name-new : length w ≤ nameMost → nameIn after n ≡ w
+  name-new short = name-same after stored n (omega (arith, s .size, short)) (λ q a b. row-kept q (omega arith)) ∙ stored-name s
 
-      newest : getD after (linkPlace n) 0 ≡ lastIn (bucketIn text after) (bucketIn text after n) n
-      newest =
-          with-link table n bucket at (k .size) few inside ∙ k .heads bucket inside ∙ sym (last-kept bucket n (omega arith))
-          ∙ ap (λ (b : ℕ). lastIn (bucketIn text after) b n) (sym (ap bucketOf name-new))
+  last-kept : (b m : ℕ) → m ≤ n → lastIn (bucketIn after) b m ≡ lastIn (bucketIn table) b m
+  last-kept b m l = last-same (bucketIn after) (bucketIn table) b m (λ i h. ap bucketOf (name-kept i (omega arith)))
 
-      go : (i < n) ⊎ (i ≡ n) → getD after (linkPlace i) 0 ≡ lastIn (bucketIn text after) (bucketIn text after i) i
-      go (inl m) =
-          with-kept table n bucket at (linkPlace i) (λ q. omega arith) (λ q. omega arith) (λ q. omega arith) ∙ k .links i m ∙ sym (last-kept (bucketIn text table i) i (omega arith))
-          ∙ ap (λ (w : Word). lastIn (bucketIn text after) (bucketOf w) i) (sym (name-kept i m))
-      go (inr q) = subst (λ (j : ℕ). getD after (linkPlace j) 0 ≡ lastIn (bucketIn text after) (bucketIn text after j) j) (sym q) newest
+  module _ (short : length w ≤ nameMost) where
+    -- only row n is written, so the first n names stay and the new one stands after them
+    pub names-more : namesIn after (n + 1) ≡ namesIn table n ++ (w ∷ [])
+    names-more =
+        over-more (nameIn after) n
+        ∙ ap (λ (ns : List Word). ns ++ (nameIn after n ∷ [])) (over-same (nameIn after) (nameIn table) [] n name-kept)
+        ∙ ap (λ (v : Word). namesIn table n ++ (v ∷ [])) (name-new short)
 
-  -- The new name is the greatest id of its bucket, and what was the greatest before is the one after it in the list; in the other buckets the
-  -- greatest id stays.
-  pub listed-more : has (namesIn text table n) (nameAt text at) ≡ false → Listed text after (n + 1)
-  listed-more new = record {
-    size = with-size table n bucket at ∙ k .size;
-    few = omega arith;
-    heads = head-more;
-    links = link-more;
-    once = ap (fresh []) names-more ∙ fresh-more [] (namesIn text table n) (nameAt text at) (k .once) refl new;
-  }
+    short-more : (i : ℕ) → i < n + 1 → sizeIn after i ≤ nameMost
+    short-more i l = go (last-or i n (omega arith))
+      where
+        go : (i < n) ⊎ (i ≡ n) → sizeIn after i ≤ nameMost
+        go (inl m) = omega (arith, k .short i m, row-kept (rowPlace i) (omega arith), s .kept (rowPlace i) (omega arith))
+        go (inr q) = rw q (omega (arith, size-new, short))
+
+    head-more : (b : ℕ) → b < buckets → getD after (headPlace b) 0 ≡ lastIn (bucketIn after) b (n + 1)
+    head-more b l = go (eqb b bucket) refl
+      where
+        go : (t : Bool) → eqb b bucket ≡ t → getD after (headPlace b) 0 ≡ lastIn (bucketIn after) b (n + 1)
+        go true e =
+            let q = eqb-true b bucket e in
+            ap (λ (p : ℕ). getD after p 0) q ∙ with-head stored n bucket stored-size few (bucket-inside w)
+            ∙ sym (last-new (bucketIn after) b n (ap bucketOf (name-new short) ∙ sym q))
+        go false e =
+            let d = eqb-false b bucket e in
+            cell-kept b (omega arith) (λ q. omega arith) d ∙ k .heads b l ∙ sym (last-kept b n (omega arith))
+            ∙ sym (last-old (bucketIn after) b n (λ q. d (sym q ∙ ap bucketOf (name-new short))))
+
+    link-more : (i : ℕ) → i < n + 1 → getD after (linkPlace i) 0 ≡ lastIn (bucketIn after) (bucketIn after i) i
+    link-more i l = go (last-or i n (omega arith))
+      where
+        inside : bucket < buckets
+        inside = bucket-inside w
+
+        newest : getD after (linkPlace n) 0 ≡ lastIn (bucketIn after) (bucketIn after n) n
+        newest =
+            with-link stored n bucket stored-size few inside ∙ s .kept (headPlace bucket) (omega (arith, inside)) ∙ k .heads bucket inside ∙ sym (last-kept bucket n (omega arith))
+            ∙ ap (λ (b : ℕ). lastIn (bucketIn after) b n) (sym (ap bucketOf (name-new short)))
+
+        go : (i < n) ⊎ (i ≡ n) → getD after (linkPlace i) 0 ≡ lastIn (bucketIn after) (bucketIn after i) i
+        go (inl m) =
+            cell-kept (linkPlace i) (omega arith) (λ q. omega arith) (λ q. omega (arith, inside)) ∙ k .links i m ∙ sym (last-kept (bucketIn table i) i (omega arith))
+            ∙ ap (λ (v : Word). lastIn (bucketIn after) (bucketOf v) i) (sym (name-kept i m))
+        go (inr q) = subst (λ (j : ℕ). getD after (linkPlace j) 0 ≡ lastIn (bucketIn after) (bucketIn after j) j) (sym q) newest
+
+    -- The new name is the greatest id of its bucket, and what was the greatest before is the one after it in the list; in the other buckets the
+    -- greatest id stays.
+    pub listed-more : has (namesIn table n) w ≡ false → Listed after (n + 1)
+    listed-more new = record {
+      size = with-size stored n bucket ∙ stored-size;
+      few = omega arith;
+      short = short-more;
+      heads = head-more;
+      links = link-more;
+      once = ap (fresh []) names-more ∙ fresh-more [] (namesIn table n) w (k .once) refl new;
+    }

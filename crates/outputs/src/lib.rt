@@ -29,8 +29,8 @@ pub enum Marked {
 
 // Marks the nodes that the words of the line from a position on name; false at the first word that names none.
 fn mark_words(text: &[u8], start: usize, names: &Names, count: usize, nodes: &mut [u32]) -> bool
-    requires { ⌜ Listed (now text) (now names) count × (nodePlace count ≤ length (now nodes)) ⌝ }
-    ensures { λ r. ⌜ WordsMarked (namesIn (now (text .entry)) (now (names .entry)) count) (wordsAt (now (text .entry)) start) (now (nodes .entry)) (now (nodes .exit)) r ⌝ }
+    requires { ⌜ Listed (now names) count × (nodePlace count ≤ length (now nodes)) ⌝ }
+    ensures { λ r. ⌜ WordsMarked (namesIn (now (names .entry)) count) (wordsAt (now (text .entry)) start) (now (nodes .entry)) (now (nodes .exit)) r ⌝ }
     ensures { λ r. ⌜ length (now (nodes .exit)) ≡ length (now (nodes .entry)) ⌝ }
 {
     let mut at = start;
@@ -51,8 +51,8 @@ fn mark_words(text: &[u8], start: usize, names: &Names, count: usize, nodes: &mu
 
 // The same for the words after `.outputs` of the line that begins at a position; another line names no outputs.
 fn mark_line(text: &[u8], at: usize, names: &Names, count: usize, nodes: &mut [u32]) -> bool
-    requires { ⌜ Listed (now text) (now names) count × (nodePlace count ≤ length (now nodes)) ⌝ }
-    ensures { λ r. ⌜ WordsMarked (namesIn (now (text .entry)) (now (names .entry)) count) (outputWords (wordsAt (now (text .entry)) at)) (now (nodes .entry)) (now (nodes .exit)) r ⌝ }
+    requires { ⌜ Listed (now names) count × (nodePlace count ≤ length (now nodes)) ⌝ }
+    ensures { λ r. ⌜ WordsMarked (namesIn (now (names .entry)) count) (outputWords (wordsAt (now (text .entry)) at)) (now (nodes .entry)) (now (nodes .exit)) r ⌝ }
     ensures { λ r. ⌜ length (now (nodes .exit)) ≡ length (now (nodes .entry)) ⌝ }
 {
     let first = after_blanks(text, at);
@@ -68,8 +68,8 @@ fn mark_line(text: &[u8], at: usize, names: &Names, count: usize, nodes: &mut [u
 
 // Marks the nodes that are put out, line by line, up to the first output that is not defined.
 pub fn mark_outputs(text: &[u8], names: &Names, count: usize, nodes: &mut [u32]) -> Marked
-    requires { ⌜ Listed (now text) (now names) count × (nodePlace count ≤ length (now nodes)) ⌝ }
-    ensures { λ r. ⌜ ((d : ℕ) (M : Model) → modelOf (now (text .entry)) ≡ found M → namesIn (now (text .entry)) (now (names .entry)) count ≡ namesOf (M .definitions)
+    requires { ⌜ Listed (now names) count × (nodePlace count ≤ length (now nodes)) ⌝ }
+    ensures { λ r. ⌜ ((d : ℕ) (M : Model) → modelOf (now (text .entry)) ≡ found M → namesIn (now (names .entry)) count ≡ namesOf (M .definitions)
         → take (nodePlace count) (now (nodes .entry)) ≡ rowsFrom d (λ w. false) 0 (M .definitions)
         → OutputsMarked d M (now (nodes .exit)) r) ⌝ }
     ensures { λ r. ⌜ length (now (nodes .exit)) ≡ length (now (nodes .entry)) ⌝ }

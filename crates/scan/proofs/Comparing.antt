@@ -1,15 +1,13 @@
 -- Two words compared byte by byte.
-use Prim.Native.Nat.{ℕ, zero, suc}
+use Prim.Native.Nat.{ℕ}
 use mathlib.Core.Path.{_≡_, refl}
 use mathlib.Core.Bool.{Bool, true, false}
 use mathlib.Core.List.{List, [], _∷_}
-use native.Mathlib.Omega.{arith}
-use lib.Dec.{eqb, leb}
+use lib.Dec.{leb}
 use lib.ListN.{length, drop, drop-of-length-le}
 use borrow.Author.Tests.{eq-eqb, ne-eqb, leb-true, leb-false}
 use Rattle.maps.specs.Lists.{equal}
 use Rattle.blif.proofs.Positions.{at-cons}
-use Rattle.scan.specs.Steps.{left}
 
 -- by how both go on
 module _ {v w : List ℕ} {x : ℕ} {xs : List ℕ} where
@@ -24,13 +22,6 @@ module _ {v w : List ℕ} {x : ℕ} {xs : List ℕ} where
     heads-same e f h = rw (e, f, eq-eqb x y h) refl
 
 -- the first has ended: whether the second has too
-pub name-ended : (s : List ℕ) (q : ℕ) (v : List ℕ) → v ≡ [] → eqb q 0 ≡ equal v (left s q)
-name-ended s q v e = rw e (go q)
-  where
-    go : (q : ℕ) → eqb q 0 ≡ equal [] (left s q)
-    go zero = refl
-    go (suc k) = ne-eqb (suc k) 0 (λ h. absurd (omega (arith, h)))
-
 pub word-ended : (w : List ℕ) (i : ℕ) (v : List ℕ) → v ≡ [] → leb (length w) i ≡ equal v (drop i w)
 word-ended w i v e = rw e (go (leb (length w) i) refl)
   where

@@ -11,7 +11,6 @@ pub use name::is_cover;
 pub use name::name_hash;
 pub use name::name_length;
 pub use name::name_next;
-pub use name::same_name;
 pub use name::spells;
 pub use words::after_blanks;
 pub use words::after_word;

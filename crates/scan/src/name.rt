@@ -43,25 +43,6 @@ pub fn name_next(text: &[u8], start: usize) -> usize
     0
 }
 
-// Whether the names at two positions are the same.
-pub fn same_name(text: &[u8], a: usize, b: usize) -> bool
-    ensures { λ r. ⌜ r ≡ equal (nameAt (now (text .entry)) a) (nameAt (now (text .entry)) b) ⌝ }
-{
-    let mut p = name_next(text, a);
-    let mut q = name_next(text, b);
-    while p != 0 {
-        if q == 0 {
-            return false;
-        }
-        if text[p - 1] != text[q - 1] {
-            return false;
-        }
-        p = name_next(text, p);
-        q = name_next(text, q);
-    }
-    q == 0
-}
-
 // Whether the name at a position is this word.
 pub fn spells(text: &[u8], at: usize, word: &[u8]) -> bool
     ensures { λ r. ⌜ r ≡ equal (nameAt (now (text .entry)) at) (now (word .entry)) ⌝ }

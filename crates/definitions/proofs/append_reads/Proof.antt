@@ -17,7 +17,7 @@ use Rattle.definitions.proofs.append_reads.Tie as tie
 abbrev Inv-loop : tie.InvT-loop
 Inv-loop text start reads names count operands₀ used at₀ i₀ operands at i =
     (i ≤ reads) × (wordsAt text at ≡ drop i (wordsAt text start))
-    × (take (used + i) operands ≡ take used operands₀ ++ map (idOf (namesIn text names count)) (take i (wordsAt text start)))
+    × (take (used + i) operands ≡ take used operands₀ ++ map (idOf (namesIn names count)) (take i (wordsAt text start)))
     × (length operands ≡ length operands₀)
 
 abbrev μ-loop : tie.MeasureT-loop
@@ -32,8 +32,8 @@ loop-holds c =
 cast-append : tie.Need-cast-append Inv-loop μ-loop
 cast-append c =
     let s = c .before .before .before .before .before .before .before in
-    let N = namesIn (s .args .text .now) (s .args .names .now) (s .args .count) in
-    omega (arith, c .before .id-of .ensures, id-small N (nameAt (s .args .text .now) (c .before .before .after-blanks .result)), length-names (s .args .text .now) (s .args .names .now) (s .args .count), s .pre .1 .few)
+    let N = namesIn (s .args .names .now) (s .args .count) in
+    omega (arith, c .before .id-of .ensures, id-small N (nameAt (s .args .text .now) (c .before .before .after-blanks .result)), length-names (s .args .names .now) (s .args .count), s .pre .1 .few)
 
 append-requires : tie.Need-append-requires Inv-loop μ-loop
 append-requires c κs =
@@ -45,7 +45,7 @@ loop-again c =
     let s = c .before .before .before .before .before .before .before .before .before .before .before in
     let o = c .before .before .before .before .before .before .before .before in
     let T = s .args .text .now in
-    let N = namesIn T (s .args .names .now) (s .args .count) in
+    let N = namesIn (s .args .names .now) (s .args .count) in
     let first = c .before .before .before .before .before .before .after-blanks in
     let l : o .loop .i < length (wordsAt T (s .args .start)) = omega (arith, s .pre .0) in
     let w = word-here T (s .args .start) (o .loop .at) (first .result) (o .loop .i) (o .loop .inv .1) l (first .ensures .0) in

@@ -15,7 +15,7 @@ use Rattle.subset.specs.declared.Statement as Code
 use Rattle.subset.specs.Meant.{statementMeant, Shaped}
 use Rattle.definitions.specs.Kept.{Lawful}
 use Rattle.definitions.proofs.Keeping.{kept-size, kept-same}
-use Rattle.definitions.proofs.Lawful.{lawful-parts, lawful-one, names-defined, latch-defined, names-few, all-words, inputs-new, inputs-room}
+use Rattle.definitions.proofs.Lawful.{lawful-parts, lawful-one, names-defined, latch-defined, names-few, all-words, inputs-new, inputs-short, inputs-room}
 use Rattle.definitions.proofs.keep_line.Statement.{statement}
 use Rattle.definitions.proofs.keep_line.Tie as tie
 
@@ -38,9 +38,10 @@ keep-inputs-requires : tie.Need-keep-inputs-requires
 keep-inputs-requires c κs =
     let s = c .before .before .before .before .before .before .before .before in
     let ws = wordsAt (s .args .text .now) (s .args .rest) in
-    let h : Lawful (s .pre .1 .0) (inputs ws) = known ws (c .before .before .before .enum-told .given .1) (s .pre .1 .2) in
-    ((omega (arith, s .pre .0 .0), s .pre .0 .2, omega (arith, s .pre .0 .0, inputs-room (s .pre .1 .0) ws h, kept-size (s .pre .1 .1))),
-     (s .pre .1 .0, s .pre .1 .1, inputs-new (s .pre .1 .0) ws (s .args .count) (s .pre .0 .0) h))
+    let h : Lawful (s .pre .1 .0) (inputs ws) = known ws (c .before .before .before .enum-told .given .1) (s .pre .1 .2) in (
+      (omega (arith, s .pre .0 .0), inputs-short (s .pre .1 .0) ws (s .args .count) (s .pre .0 .0) h, omega (arith, s .pre .0 .0, inputs-room (s .pre .1 .0) ws h, kept-size (s .pre .1 .1))),
+      (s .pre .1 .0, s .pre .1 .1, inputs-new (s .pre .1 .0) ws (s .args .count) (s .pre .0 .0) h),
+    )
 
 sub-keep-one : tie.Need-sub-keep-one
 sub-keep-one c =
@@ -60,7 +61,7 @@ keep-one-requires c κs =
     let n : length ws ≡ suc (s .args .count - 1) = omega (arith, s .pre .0 .0, l) in
     let h : Lawful (s .pre .1 .0) (namesLine ws) = known ws (c .before .before .before .before .enum-told2 .given .1) (s .pre .1 .2) in
     let o = lawful-one (s .pre .1 .0) (namesLine ws) (definition (getD ws (s .args .count - 1) []) (kindOf (take (s .args .count - 1) ws)) (take (s .args .count - 1) ws)) (names-defined ws (s .args .count - 1) n) h in
-    ((omega (arith, n), s .pre .0 .2, omega (arith, o .room, kept-size (s .pre .1 .1)), names-few ws (s .args .count - 1) n (lawful-parts (s .pre .1 .0) (namesLine ws) h .few)), (s .pre .1 .0, s .pre .1 .1, o .new))
+    ((omega (arith, n), o .short, omega (arith, o .room, kept-size (s .pre .1 .1)), names-few ws (s .args .count - 1) n (lawful-parts (s .pre .1 .0) (namesLine ws) h .few)), (s .pre .1 .0, s .pre .1 .1, o .new))
 
 keep-one-requires-2 : tie.Need-keep-one-requires-2
 keep-one-requires-2 c κs =
@@ -69,7 +70,7 @@ keep-one-requires-2 c κs =
     let l : 2 ≤ s .args .count = shape (s .args .count) (c .before .before .before .enum-told3 .given .1) (s .pre .0 .1) in
     let n : 2 ≤ length ws = omega (arith, s .pre .0 .0, l) in
     let o = lawful-one (s .pre .1 .0) (latch (getD ws 0 []) (getD ws 1 [])) (definition (getD ws 1 []) (box 1) (take 1 ws)) (latch-defined ws n) (known ws (c .before .before .before .enum-told3 .given .1) (s .pre .1 .2)) in
-    ((omega (arith, n), s .pre .0 .2, omega (arith, o .room, kept-size (s .pre .1 .1)), omega arith), (s .pre .1 .0, s .pre .1 .1, o .new))
+    ((omega (arith, n), o .short, omega (arith, o .room, kept-size (s .pre .1 .1)), omega arith), (s .pre .1 .0, s .pre .1 .1, o .new))
 
 returns : tie.Need-returns
 returns c =
@@ -77,7 +78,7 @@ returns c =
     let ws = wordsAt (s .args .text .now) (s .args .rest) in
     let t = c .before .before .before .before .before .before .before .before .enum-told .given .1 in
     λ ds q h. kept-same (ap (λ (ws : List Word). ds ++ inputsOf ws) (all-words ws (s .args .count) (s .pre .0 .0)) ∙ adds ds ws t refl)
-        (c .before .before .before .before .keep-inputs .ensures ds q (inputs-new ds ws (s .args .count) (s .pre .0 .0) (known ws t h)))
+    (c .before .before .before .before .keep-inputs .ensures ds q (inputs-new ds ws (s .args .count) (s .pre .0 .0) (known ws t h)))
 
 returns-2 : tie.Need-returns-2
 returns-2 c =
@@ -89,8 +90,8 @@ returns-2 c =
     let n : length ws ≡ suc r = omega (arith, s .pre .0 .0, l) in
     let k = c .before .before .before .before .before .before .before .before .kind-of .ensures (take r ws) (length-take-le r ws (omega (arith, n))) in
     λ ds q h.
-        let o = lawful-one ds (namesLine ws) (definition (getD ws r []) (kindOf (take r ws)) (take r ws)) (names-defined ws r n) (known ws t h) in
-        kept-same (ap (λ (k : Kind). ds ++ (definition (getD ws r []) k (take r ws) ∷ [])) k ∙ adds ds ws t (names-defined ws r n)) (c .before .before .before .before .keep-one .ensures ds q (o .reads) (o .new))
+    let o = lawful-one ds (namesLine ws) (definition (getD ws r []) (kindOf (take r ws)) (take r ws)) (names-defined ws r n) (known ws t h) in
+    kept-same (ap (λ (k : Kind). ds ++ (definition (getD ws r []) k (take r ws) ∷ [])) k ∙ adds ds ws t (names-defined ws r n)) (c .before .before .before .before .keep-one .ensures ds q (o .reads) (o .new))
 
 returns-3 : tie.Need-returns-3
 returns-3 c =
@@ -100,8 +101,8 @@ returns-3 c =
     let l : 2 ≤ s .args .count = shape (s .args .count) t (s .pre .0 .1) in
     let n : 2 ≤ length ws = omega (arith, s .pre .0 .0, l) in
     λ ds q h.
-        let o = lawful-one ds (latch (getD ws 0 []) (getD ws 1 [])) (definition (getD ws 1 []) (box 1) (take 1 ws)) (latch-defined ws n) (known ws t h) in
-        kept-same (adds ds ws t (latch-defined ws n)) (c .before .before .before .before .keep-one2 .ensures ds q (o .reads) (o .new))
+    let o = lawful-one ds (latch (getD ws 0 []) (getD ws 1 [])) (definition (getD ws 1 []) (box 1) (take 1 ws)) (latch-defined ws n) (known ws t h) in
+    kept-same (adds ds ws t (latch-defined ws n)) (c .before .before .before .before .keep-one2 .ensures ds q (o .reads) (o .new))
 
 returns-4 : tie.Need-returns-4
 returns-4 c = λ ds q h. kept-same (none ds _ (c .enum-told4 .given .1) refl) q

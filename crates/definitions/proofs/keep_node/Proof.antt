@@ -28,7 +28,7 @@ add-name-requires c κs =
     let s = c .before .before .before .before .before .before .before .before .before .before in
     let T = s .args .text .now in
     let w = word-here T (s .args .start) (c .before .before .before .before .append-reads .result) (c .before .after-blanks .result) (s .args .reads) (c .before .before .before .before .append-reads .ensures .0) (s .pre .0 .0) (c .before .after-blanks .ensures .0) in
-    (s .pre .0 .2, (s .pre .0 .3, omega (arith, w .1, s .pre .0 .1), rw (w .0) (s .pre .1 .0)))
+    ((s .pre .0 .2, s .pre .0 .3), (rw (w .0) (s .pre .0 .1), rw (w .0) (s .pre .1 .0)))
 
 cast-row-of : tie.Need-cast-row-of
 cast-row-of c =
@@ -51,9 +51,9 @@ returns c =
     let w = word-here T (s .args .start) (r .result) (f .result) (s .args .reads) (r .ensures .0) (s .pre .0 .0) (f .ensures .0) in
     let x = definition (getD (wordsAt T (s .args .start)) (s .args .reads) []) (kindMeant (s .args .kind)) (take (s .args .reads) (wordsAt T (s .args .start))) in
     let l : s .args .size .operands + s .args .reads ≡ s .args .size .operands + length (x .reads) =
-        omega (arith, length-take-le (s .args .reads) (wordsAt T (s .args .start)) (omega (arith, s .pre .0 .0))) in (
+    omega (arith, length-take-le (s .args .reads) (wordsAt T (s .args .start)) (omega (arith, s .pre .0 .0))) in (
       words-after T (s .args .start) (r .result) (f .result) (c .after-word .result) (s .args .reads) (r .ensures .0) (s .pre .0 .0) (f .ensures .0) (c .after-word .ensures .0),
-      added x (s .args .size .operands + s .args .reads) l (a .0) (a .1 ∙ ap (λ (v : Word). namesIn T (s .args .names .now) (s .args .size .nodes) ++ (v ∷ [])) (w .0)) (p .0 ∙ ap (λ (row : NodeRow). take (nodePlace (s .args .size .nodes)) (s .args .nodes .now) ++ rowNumbers row) (c .before .before .before .before .row-of .ensures)) (r .ensures .1 .0) (p .1) (r .ensures .1 .1),
+      added x (s .args .size .operands + s .args .reads) l (a .0) (a .1 ∙ ap (λ (v : Word). namesIn (s .args .names .now) (s .args .size .nodes) ++ (v ∷ [])) (w .0)) (p .0 ∙ ap (λ (row : NodeRow). take (nodePlace (s .args .size .nodes)) (s .args .nodes .now) ++ rowNumbers row) (c .before .before .before .before .row-of .ensures)) (r .ensures .1 .0) (p .1) (r .ensures .1 .1),
     )
 
 pub keep-node-spec : {M : Type 1} → statement M

@@ -14,7 +14,7 @@ returns c =
     let s = c .before .before .before in
     let a = s .args in
     let ws = wordsAt (a .text .now) (a .rest) in
-    fault-subset (namesIn (a .text .now) (a .names .now) (a .nodes)) (a .nodes) (statementMeant (a .statement) ws) (sym (c .before .is-outside .ensures ws (sym (s .pre .1))) ∙ c .if1 .taken)
+    fault-subset (namesIn (a .names .now) (a .nodes)) (a .nodes) (statementMeant (a .statement) ws) (sym (c .before .is-outside .ensures ws (sym (s .pre .1))) ∙ c .if1 .taken)
 
 resolves-requires : tie.Need-resolves-requires
 resolves-requires c κs =
@@ -32,7 +32,7 @@ returns-2 c =
     let ws = wordsAt (a .text .now) (a .rest) in
     let l = sym (s .pre .1) in
     let m = statementMeant (a .statement) ws in
-    fault-name (namesIn (a .text .now) (a .names .now) (a .nodes)) (a .nodes) m (sym (e .before .is-outside .ensures ws l) ∙ e .if1 .left)
+    fault-name (namesIn (a .names .now) (a .nodes)) (a .nodes) m (sym (e .before .is-outside .ensures ws l) ∙ e .if1 .left)
     (sym (c .before .resolves .ensures m (q .parts-of .ensures ws l)) ∙ not-true _ (c .if2 .taken))
 
 within-limits-requires : tie.Need-within-limits-requires
@@ -54,7 +54,7 @@ returns-3 c =
     let l = sym (s .pre .1) in
     let m = statementMeant (a .statement) ws in
     let P = q .parts-of .ensures ws l in
-    fault-limit (namesIn (a .text .now) (a .names .now) (a .nodes)) (a .nodes) m (sym (e .before .is-outside .ensures ws l) ∙ e .if1 .left)
+    fault-limit (namesIn (a .names .now) (a .nodes)) (a .nodes) m (sym (e .before .is-outside .ensures ws l) ∙ e .if1 .left)
     (sym (r .before .resolves .ensures m P) ∙ not-false _ (r .if2 .left)) (sym (c .before .within-limits .ensures P) ∙ not-true _ (c .if3 .taken))
 
 returns-4 : tie.Need-returns-4
@@ -68,7 +68,7 @@ returns-4 c =
     let l = sym (s .pre .1) in
     let m = statementMeant (a .statement) ws in
     let P = q .parts-of .ensures ws l in
-    fault-none (namesIn (a .text .now) (a .names .now) (a .nodes)) (a .nodes) m (sym (e .before .is-outside .ensures ws l) ∙ e .if1 .left)
+    fault-none (namesIn (a .names .now) (a .nodes)) (a .nodes) m (sym (e .before .is-outside .ensures ws l) ∙ e .if1 .left)
     (sym (r .before .resolves .ensures m P) ∙ not-false _ (r .if2 .left)) (sym (c .before .within-limits .ensures P) ∙ not-false _ (c .if3 .left))
 
 pub ground-of-spec : {M : Type 1} → statement M

@@ -18,7 +18,7 @@ returns c = λ s P.
     let b = c .before in
     let a = b .before .before .args in
     let ws = wordsAt (a .text .now) (a .rest) in
-    reads-fail (namesIn (a .text .now) (a .names .now) (a .count)) ws (drop (a .parts .reads) ws) s (a .parts) P refl (omega (arith, c .if1 .taken, b .count-defined .ensures))
+    reads-fail (namesIn (a .names .now) (a .count)) ws (drop (a .parts .reads) ws) s (a .parts) P refl (omega (arith, c .if1 .taken, b .count-defined .ensures))
 
 -- the words after those read are as many as are defined, or more
 count-defined-requires-2 : tie.Need-count-defined-requires-2
@@ -32,7 +32,7 @@ returns-2 : tie.Need-returns-2
 returns-2 c = λ s P.
     let k = c .before .before in
     let a = k .before .before .before .before .args in
-    defines-fail (namesIn (a .text .now) (a .names .now) (a .count)) (wordsAt (a .text .now) (a .rest)) (wordsAt (a .text .now) (k .skip-words .result)) s (a .parts) P (k .skip-words .ensures) (omega (arith, c .if2 .taken, c .before .count-defined2 .ensures))
+    defines-fail (namesIn (a .names .now) (a .count)) (wordsAt (a .text .now) (a .rest)) (wordsAt (a .text .now) (k .skip-words .result)) s (a .parts) P (k .skip-words .ensures) (omega (arith, c .if2 .taken, c .before .count-defined2 .ensures))
 
 returns-3 : tie.Need-returns-3
 returns-3 c = λ s P.
@@ -40,7 +40,7 @@ returns-3 c = λ s P.
     let k = d .before in
     let b = k .before .before in
     let a = b .before .before .args in
-    own-names (namesIn (a .text .now) (a .names .now) (a .count)) (wordsAt (a .text .now) (a .rest)) (wordsAt (a .text .now) (k .skip-words .result)) s (a .parts) P (k .skip-words .ensures) _
+    own-names (namesIn (a .names .now) (a .count)) (wordsAt (a .text .now) (a .rest)) (wordsAt (a .text .now) (k .skip-words .result)) s (a .parts) P (k .skip-words .ensures) _
     (omega (arith, k .before .if1 .left, b .count-defined .ensures)) (omega (arith, c .before .if2 .left, d .count-defined2 .ensures)) (fresh-few (a .parts .defines) (wordsAt (a .text .now) (k .skip-words .result)) (c .if3 .taken))
 
 distinct-words-requires : tie.Need-distinct-words-requires
@@ -60,7 +60,7 @@ returns-4 c = λ s P.
     let a = b .before .before .args in
     let after = wordsAt (a .text .now) (k .skip-words .result) in
     let n = defines-length (a .parts .reads) (a .parts .defines) (wordsAt (a .text .now) (a .rest)) after (k .skip-words .ensures) (c .before .if3 .left) (p .1 .1) in
-    own-names (namesIn (a .text .now) (a .names .now) (a .count)) (wordsAt (a .text .now) (a .rest)) after s (a .parts) P (k .skip-words .ensures) _
+    own-names (namesIn (a .names .now) (a .count)) (wordsAt (a .text .now) (a .rest)) after s (a .parts) P (k .skip-words .ensures) _
     (omega (arith, k .before .if1 .left, b .count-defined .ensures)) (omega (arith, c .before .before .if2 .left, d .count-defined2 .ensures))
     (c .distinct-words .ensures ∙ ap (fresh []) (sym (take-all (a .parts .defines) after (omega (arith, n)))))
 

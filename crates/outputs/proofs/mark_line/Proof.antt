@@ -17,7 +17,7 @@ returns c =
     let f = c .before .before in
     let a = f .before .before .before .args in
     let e = line-empty (a .text .now) (a .at) (f .after-blanks .result) (f .after-blanks .ensures .0) (sym (c .before .line-ends .ensures) ∙ c .if1 .taken) in
-    (words-end (namesIn (a .text .now) (a .names .now) (a .count)) (outputWords (wordsAt (a .text .now) (a .at))) (a .nodes .now) e, refl)
+    (words-end (namesIn (a .names .now) (a .count)) (outputWords (wordsAt (a .text .now) (a .at))) (a .nodes .now) e, refl)
 
 returns-2 : tie.Need-returns-2
 returns-2 c =
@@ -26,7 +26,7 @@ returns-2 c =
     let a = f .before .before .before .args in
     let e = line-other (a .text .now) (a .at) (f .after-blanks .result) (f .after-blanks .ensures .0) (sym (t .before .line-ends .ensures) ∙ t .if1 .left)
     (sym (c .before .spells .ensures) ∙ not-true _ (c .if2 .taken)) in
-    (words-end (namesIn (a .text .now) (a .names .now) (a .count)) (outputWords (wordsAt (a .text .now) (a .at))) (a .nodes .now) e, refl)
+    (words-end (namesIn (a .names .now) (a .count)) (outputWords (wordsAt (a .text .now) (a .at))) (a .nodes .now) e, refl)
 
 returns-3 : tie.Need-returns-3
 returns-3 c =
@@ -38,7 +38,7 @@ returns-3 c =
     let a = f .before .before .before .args in
     let e = line-own (a .text .now) (a .at) (f .after-blanks .result) (f .after-blanks .ensures .0) (w .after-word .result) (sym (t .before .line-ends .ensures) ∙ t .if1 .left)
     (sym (u .before .spells .ensures) ∙ not-false _ (u .if2 .left)) (w .after-word .ensures .0) in
-    (subst (λ (ws : List Word). WordsMarked (namesIn (a .text .now) (a .names .now) (a .count)) ws (a .nodes .now) (m .mark-words .last .1 .1 .1 .1 .0) (m .mark-words .result)) (sym e) (m .mark-words .ensures .0), m .mark-words .ensures .1)
+    (subst (λ (ws : List Word). WordsMarked (namesIn (a .names .now) (a .count)) ws (a .nodes .now) (m .mark-words .last .1 .1 .1 .1 .0) (m .mark-words .result)) (sym e) (m .mark-words .ensures .0), m .mark-words .ensures .1)
 
 pub mark-line-spec : {M : Type 1} → statement M
 mark-line-spec =

@@ -17,8 +17,8 @@ use Rattle.outputs.proofs.mark_outputs.Tie as tie
 abbrev Inv-loop : tie.InvT-loop
 Inv-loop text names count nodes₀ at₀ nodes at =
     (length nodes ≡ length nodes₀)
-    × ((after : List ℕ) (r : Marked) → ListMarked (namesIn text names count) (outputsFrom text at) nodes after r
-    → ListMarked (namesIn text names count) (outputsFrom text 0) nodes₀ after r)
+    × ((after : List ℕ) (r : Marked) → ListMarked (namesIn names count) (outputsFrom text at) nodes after r
+    → ListMarked (namesIn names count) (outputsFrom text 0) nodes₀ after r)
 
 abbrev μ-loop : tie.MeasureT-loop
 μ-loop text names count nodes₀ at₀ nodes at = length text - at
@@ -33,12 +33,12 @@ returns c =
     let t = f .before in
     let l = t .before .loop in
     let a = t .before .before .before .before .args in
-    let ns = namesIn (a .text .now) (a .names .now) (a .count) in
+    let ns = namesIn (a .names .now) (a .count) in
     let nodes = m .mark-line .last .1 .1 .1 .1 .0 in
     let stop =
     outputs-stop (a .text .now) ns (l .at) (f .after-line .result) (t .loop-test .taken) (f .after-line .ensures .0) (l .nodes) nodes nodes (m .mark-line .result) (m .mark-line .ensures .0)
     (c .line-number .result) (not-true _ (c .before .if1 .taken)) (c .line-number .ensures) in (
-      model-marked (a .text .now) ns (a .count) (a .nodes .now) nodes (Undefined (c .line-number .result)) (length-names (a .text .now) (a .names .now) (a .count)) (l .inv .1 nodes (Undefined (c .line-number .result)) stop),
+      model-marked (a .text .now) ns (a .count) (a .nodes .now) nodes (Undefined (c .line-number .result)) (length-names (a .names .now) (a .count)) (l .inv .1 nodes (Undefined (c .line-number .result)) stop),
       m .mark-line .ensures .1 ∙ l .inv .0,
     )
 
@@ -54,7 +54,7 @@ loop-again c =
     let t = f .before in
     let l = t .before .loop in
     let a = t .before .before .before .before .args in
-    let ns = namesIn (a .text .now) (a .names .now) (a .count) in
+    let ns = namesIn (a .names .now) (a .count) in
     let nodes = m .mark-line .last .1 .1 .1 .1 .0 in (
       m .mark-line .ensures .1 ∙ l .inv .0,
       λ after r p.
@@ -67,8 +67,8 @@ returns-2 : tie.Need-returns-2 Inv-loop μ-loop
 returns-2 c =
     let l = c .before .loop in
     let a = c .before .before .before .before .args in
-    let ns = namesIn (a .text .now) (a .names .now) (a .count) in (
-      model-marked (a .text .now) ns (a .count) (a .nodes .now) (l .nodes) All (length-names (a .text .now) (a .names .now) (a .count)) (l .inv .1 (l .nodes) All (outputs-end (a .text .now) ns (l .at) (l .nodes) (c .loop-test .left))),
+    let ns = namesIn (a .names .now) (a .count) in (
+      model-marked (a .text .now) ns (a .count) (a .nodes .now) (l .nodes) All (length-names (a .names .now) (a .count)) (l .inv .1 (l .nodes) All (outputs-end (a .text .now) ns (l .at) (l .nodes) (c .loop-test .left))),
       l .inv .0,
     )
 

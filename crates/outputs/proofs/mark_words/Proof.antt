@@ -21,8 +21,8 @@ use Rattle.outputs.proofs.mark_words.Tie as tie
 abbrev Inv-loop : tie.InvT-loop
 Inv-loop text start names count nodes₀ at₀ nodes at =
     (length nodes ≡ length nodes₀)
-    × ((after : List ℕ) (r : Bool) → WordsMarked (namesIn text names count) (wordsAt text at) nodes after r
-    → WordsMarked (namesIn text names count) (wordsAt text start) nodes₀ after r)
+    × ((after : List ℕ) (r : Bool) → WordsMarked (namesIn names count) (wordsAt text at) nodes after r
+    → WordsMarked (namesIn names count) (wordsAt text start) nodes₀ after r)
 
 abbrev μ-loop : tie.MeasureT-loop
 μ-loop text start names count nodes₀ at₀ nodes at = length (wordsAt text at)
@@ -35,7 +35,7 @@ returns c =
     let f = c .before .before in
     let l = f .before .before .loop in
     let a = f .before .before .before .before .before .args in
-    let ns = namesIn (a .text .now) (a .names .now) (a .count) in
+    let ns = namesIn (a .names .now) (a .count) in
     let e =
     words-none (a .text .now) (l .at) (f .after-blanks .result) (f .after-blanks .ensures .0) (sym (c .before .line-ends .ensures) ∙ c .if1 .taken) in
     (l .inv .1 (l .nodes) true (words-end ns (wordsAt (a .text .now) (l .at)) (l .nodes) e), l .inv .0)
@@ -47,11 +47,11 @@ returns-2 c =
     let f = t .before .before in
     let l = f .before .before .loop in
     let a = f .before .before .before .before .before .args in
-    let ns = namesIn (a .text .now) (a .names .now) (a .count) in
+    let ns = namesIn (a .names .now) (a .count) in
     let e =
     words-some (a .text .now) (l .at) (f .after-blanks .result) (w .after-word .result) (f .after-blanks .ensures .0) (sym (t .before .line-ends .ensures) ∙ t .if1 .left) (w .after-word .ensures .0) in
     let m = word-missing ns (nameAt (a .text .now) (f .after-blanks .result)) (wordsAt (a .text .now) (l .at)) (wordsAt (a .text .now) (w .after-word .result)) (l .nodes) (l .nodes) (w .before .id-of .result) e
-    (w .before .id-of .ensures) (omega (arith, length-names (a .text .now) (a .names .now) (a .count), c .if2 .taken)) in
+    (w .before .id-of .ensures) (omega (arith, length-names (a .names .now) (a .count), c .if2 .taken)) in
     (l .inv .1 (l .nodes) false m, l .inv .0)
 
 loop-less : tie.Need-loop-less Inv-loop μ-loop
@@ -74,7 +74,7 @@ loop-again c =
     let l = f .before .before .loop in
     let s = f .before .before .before .before .before in
     let a = s .args in
-    let ns = namesIn (a .text .now) (a .names .now) (a .count) in
+    let ns = namesIn (a .names .now) (a .count) in
     let e =
     words-some (a .text .now) (l .at) (f .after-blanks .result) (w .after-word .result) (f .after-blanks .ensures .0) (sym (t .before .line-ends .ensures) ∙ t .if1 .left) (w .after-word .ensures .0) in
     let m = k .mark-output .ensures in (
@@ -82,14 +82,14 @@ loop-again c =
       λ after r p.
           l .inv .1 after r
           (word-marked ns (nameAt (a .text .now) (f .after-blanks .result)) (wordsAt (a .text .now) (l .at)) (wordsAt (a .text .now) (w .after-word .result)) (l .nodes) (k .mark-output .last .0) after r (w .before .id-of .result) e
-          (once-more [] ns once-none (s .pre .0 .once)) (w .before .id-of .ensures) (omega (arith, length-names (a .text .now) (a .names .now) (a .count), k .before .before .if2 .left)) m p),
+          (once-more [] ns once-none (s .pre .0 .once)) (w .before .id-of .ensures) (omega (arith, length-names (a .names .now) (a .count), k .before .before .if2 .left)) m p),
     )
 
 returns-3 : tie.Need-returns-3 Inv-loop μ-loop
 returns-3 c =
     let l = c .before .loop in
     let a = c .before .before .before .before .args in
-    let ns = namesIn (a .text .now) (a .names .now) (a .count) in
+    let ns = namesIn (a .names .now) (a .count) in
     (l .inv .1 (l .nodes) true (words-end ns (wordsAt (a .text .now) (l .at)) (l .nodes) (words-past (a .text .now) (l .at) (c .loop-test .left))), l .inv .0)
 
 pub mark-words-spec : {M : Type 1} → statement M

@@ -12,7 +12,7 @@ use Rattle.importer.proofs.call.import_text.Tie as tie
 read-model-requires : tie.Need-read-model-requires
 read-model-requires c κs =
     let s = c .before .before .before .before .before in
-    (s .pre, nothing-kept (s .args .text .now) (s .args .delay))
+    (s .pre, nothing-kept (s .args .delay))
 
 write-model-requires : tie.Need-write-model-requires
 write-model-requires c κs =

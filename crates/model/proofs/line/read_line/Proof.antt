@@ -11,7 +11,7 @@ returns c =
     let s = c .before .before .before .before .before .before in
     let first = c .before .before .after-blanks in
     λ M k. turn-empty (s .args .text .now) (s .args .delay) (s .args .at) (s .args .state .stage) M (s .args .state) refl
-        (words-none (s .args .text .now) (s .args .at) (first .result) (first .ensures .0) (sym (c .before .line-ends .ensures) ∙ c .if1 .taken)) k
+    (words-none (s .args .text .now) (s .args .at) (first .result) (first .ensures .0) (sym (c .before .line-ends .ensures) ∙ c .if1 .taken)) k
 
 read-words-requires : tie.Need-read-words-requires
 read-words-requires c κs =
