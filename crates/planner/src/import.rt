@@ -20,7 +20,5 @@ pub extern "C" fn maps_import(
     ensures { λ r. ⌜ Answered (importing (now (text .entry)) (caller leaves top horizon table level) (length (now (sheet .entry))))
         (r .number) (r .place) (now (sheet .entry)) (now (sheet .exit)) ⌝ }
 {
-    answer_of(import_blif(
-        text, leaves, top, horizon, table, level, sheet,
-    ))
+    answer_of(import_blif(text, leaves, top, horizon, table, level, sheet))
 }

@@ -26,7 +26,7 @@ returns c =
     let s = c .before .before .before .before .before .before .before .before .before .before .before in
     let r = c .before .before .before .before .before .read-model in
     λ caller h el et eh ed.
-        answered-as (s .args .buffer .now) (refused-model (s .args .text .now) caller (s .args .delay) (r .last .1 .1 .0) (r .last .1 .1 .1 .0) (r .last .1 .1 .1 .1 .0) (r .result) _ (c .before .model .given .1) (r .ensures) h (s .pre) (length (s .args .buffer .now))) (refl, refl, refl)
+    answered-as (s .args .buffer .now) (refused-model (s .args .text .now) caller (s .args .delay) (r .last .1 .1 .0) (r .last .1 .1 .1 .0) (r .last .1 .1 .1 .1 .0) (r .result) _ (c .before .model .given .1) (r .ensures) h (s .pre) (length (s .args .buffer .now))) (refl, refl, refl)
 
 returns-2 : tie.Need-returns-2
 returns-2 c =

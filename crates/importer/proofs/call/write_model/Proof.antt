@@ -46,18 +46,18 @@ returns c =
     let s = c .before .before .before .before .before .before .before .before .before .before .before .before in
     let m = c .before .before .before .before .before .mark-outputs in
     λ caller M h el et eh k f.
-        answered-as (s .args .buffer .now) (one-undefined (s .args .text .now) caller M f h (s .pre .0) _ (m .result) _ (c .before .marked .given .1) (m .ensures .0 (delay caller) M f (k .named) (k .rows)) (length (s .args .buffer .now))) (refl, refl, refl)
+    answered-as (s .args .buffer .now) (one-undefined (s .args .text .now) caller M f h (s .pre .0) _ (m .result) _ (c .before .marked .given .1) (m .ensures .0 (delay caller) M f (k .named) (k .rows)) (length (s .args .buffer .now))) (refl, refl, refl)
 
 returns-2 : tie.Need-returns-2
 returns-2 c =
     let s = c .before .before .before .before .before .before .before .before .before .before .before .before .before .before .before .before .before .before in
     let m = c .before .before .before .before .before .before .before .before .before .before .before .mark-outputs in
     λ caller M h el et eh k f.
-        answered-as (s .args .buffer .now) (ap (λ (x : ℕ). writing (recordsIn x (s .args .top) (s .args .horizon) (take (s .args .size .nodes * 5) (m .last .1 .1 .1 .0)) (take (s .args .size .operands) (s .args .operands .now)) []) (length (s .args .buffer .now))) (sym el)
-          ∙ ap (λ (x : ℕ). writing (recordsIn (caller .leaves) x (s .args .horizon) (take (s .args .size .nodes * 5) (m .last .1 .1 .1 .0)) (take (s .args .size .operands) (s .args .operands .now)) []) (length (s .args .buffer .now))) (sym et)
-          ∙ ap (λ (x : ℕ). writing (recordsIn (caller .leaves) (caller .top) x (take (s .args .size .nodes * 5) (m .last .1 .1 .1 .0)) (take (s .args .size .operands) (s .args .operands .now)) []) (length (s .args .buffer .now))) (sym eh)
-          ∙ all-marked (s .args .text .now) caller M f h (s .pre .0) (m .last .1 .1 .1 .0) (m .result) (c .before .before .before .before .before .before .before .enum-told .given .1) k (m .ensures .0 (delay caller) M f (k .named) (k .rows)) (length (s .args .buffer .now)))
-        (c .before .before .write .ensures)
+    answered-as (s .args .buffer .now) (ap (λ (x : ℕ). writing (recordsIn x (s .args .top) (s .args .horizon) (take (s .args .size .nodes * 5) (m .last .1 .1 .1 .0)) (take (s .args .size .operands) (s .args .operands .now)) []) (length (s .args .buffer .now))) (sym el)
+    ∙ ap (λ (x : ℕ). writing (recordsIn (caller .leaves) x (s .args .horizon) (take (s .args .size .nodes * 5) (m .last .1 .1 .1 .0)) (take (s .args .size .operands) (s .args .operands .now)) []) (length (s .args .buffer .now))) (sym et)
+    ∙ ap (λ (x : ℕ). writing (recordsIn (caller .leaves) (caller .top) x (take (s .args .size .nodes * 5) (m .last .1 .1 .1 .0)) (take (s .args .size .operands) (s .args .operands .now)) []) (length (s .args .buffer .now))) (sym eh)
+    ∙ all-marked (s .args .text .now) caller M f h (s .pre .0) (m .last .1 .1 .1 .0) (m .result) (c .before .before .before .before .before .before .before .enum-told .given .1) k (m .ensures .0 (delay caller) M f (k .named) (k .rows)) (length (s .args .buffer .now)))
+    (c .before .before .write .ensures)
 
 pub write-model-spec : {M : Type 1} → statement M
 write-model-spec =
