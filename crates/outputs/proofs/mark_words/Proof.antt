@@ -78,7 +78,7 @@ loop-again c =
     let e =
     words-some (a .text .now) (l .at) (f .after-blanks .result) (w .after-word .result) (f .after-blanks .ensures .0) (sym (t .before .line-ends .ensures) ∙ t .if1 .left) (w .after-word .ensures .0) in
     let m = k .mark-output .ensures in (
-      ap length m ∙ length-set (l .nodes) (markPlace (w .before .id-of .result)) 1 ∙ l .inv .0,
+      ap length m ∙ length-set (l .nodes) _ 1 ∙ l .inv .0,
       λ after r p.
           l .inv .1 after r
           (word-marked ns (nameAt (a .text .now) (f .after-blanks .result)) (wordsAt (a .text .now) (l .at)) (wordsAt (a .text .now) (w .after-word .result)) (l .nodes) (k .mark-output .last .0) after r (w .before .id-of .result) e

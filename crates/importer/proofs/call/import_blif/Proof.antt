@@ -18,7 +18,7 @@ returns c =
 returns-2 : tie.Need-returns-2
 returns-2 c =
     let s = c .before .before .before .before .before in
-    answered-as (s .args .buffer .now) (barred-text (s .args .text .now) (caller (s .args .leaves) (s .args .top) (s .args .horizon) (s .args .table) (s .args .level)) (sym (c .before .before .is-callable .ensures) ∙ not-false _ (c .before .if1 .left)) (c .if2 .taken) (length (s .args .buffer .now))) (refl, refl, refl)
+    answered-as (s .args .buffer .now) (barred-text (s .args .text .now) (caller (s .args .leaves) (s .args .top) (s .args .horizon) (s .args .table) (s .args .level)) (sym (c .before .before .is-callable .ensures) ∙ not-false _ (c .before .if1 .left)) (omega (arith, c .if2 .taken)) (length (s .args .buffer .now))) (refl, refl, refl)
 
 delay-of-requires : tie.Need-delay-of-requires
 delay-of-requires c κs =
