@@ -1,10 +1,12 @@
 //! MAPS_STACK of the header against a bound on the stack of each exported call. The bounds come from the archive itself: the frame of each function
 //! and who calls whom are read from its disassembly, and a recursive function counts as often as it can be active at once.
 #![cfg(planner)]
+use maps_tests::blif::Caller;
 use maps_tests::header::defined;
-use maps_tests::library::{plan, write};
+use maps_tests::library::{import, plan, write};
 use maps_tests::limits::{fields, H, N};
 use maps_tests::made::{chain, greatest, input, numbers, spelled, table};
+use maps_tests::models::abc;
 use maps_tests::random::Random;
 use maps_tests::reader::Sheet;
 use maps_tests::writer::{Records, Rows};
@@ -13,7 +15,7 @@ use std::path::{Path, PathBuf};
 use std::process::Command;
 
 /// The exported calls.
-const CALLS: [&str; 2] = ["maps_plan", "maps_write_rows"];
+const CALLS: [&str; 3] = ["maps_plan", "maps_write_rows", "maps_import"];
 
 /// Ids of nodes, and operands of one.
 const NODES: u64 = N.1 as u64;
@@ -29,13 +31,17 @@ const OPERANDS: u64 = fields(1, 1).operands.1 as u64;
 /// `scan` begins once in each `expand` and calls itself with the next operand. An `enter` that is not the last call has called an `expand`, so
 /// there is at most one more of it.
 ///
+/// The sort of the words of a line (crates/distinct): `sort` of n words calls itself for each half of them and returns at once where n is below 2. A
+/// text has at most 32,768 words, 2 to the power of 15, so at most 16 of it are active.
+///
 /// A compiler that inlines some of them, or makes a loop of a last call, leaves fewer frames of each, never more.
-const RECURSIVE: [(&str, &str, u64); 5] = [
+const RECURSIVE: [(&str, &str, u64); 6] = [
     ("cone", "visit_operands", NODES * (OPERANDS + 1)),
     ("cone", "visit", NODES + 1),
     ("flow", "expand", NODES + 1),
     ("flow", "scan", NODES * (OPERANDS + 1)),
     ("flow", "enter", NODES + 2),
+    ("distinct", "sort", 16),
 ];
 
 /// Functions of the C library that the compiler calls by itself, and what is allowed for one of them: they are leaves with small frames, and the
@@ -206,8 +212,8 @@ fn the_header_promises_no_less_than_the_bound() {
         let times = if reached(&all, name).contains(name.as_str()) { activations(name) } else { 1 };
         println!("{name}: {} bytes, {times} at once, calls {:?}", function.frame + RETURN, function.calls);
     }
-    // The walks of the two crates are recursive: a reading of the archive that does not see this is wrong.
-    for in_crate in ["cone", "flow"] {
+    // The walks of two crates and the sort of a third are recursive: a reading of the archive that does not see this is wrong.
+    for in_crate in ["cone", "flow", "distinct"] {
         assert!(all.keys().any(|name| name.contains(in_crate) && reached(&all, name).contains(name.as_str())), "no recursion in {in_crate}");
     }
     let promised = defined("MAPS_STACK");
@@ -264,4 +270,41 @@ fn the_bound_is_enough_for_the_greatest_records() {
         met
     };
     assert_eq!(within_the_bound("maps_write_rows", writing), [20, 0, 0, 20, 0, 0, 0, 0, 20]);
+}
+
+/// A model with so many different inputs, each a name of two bytes, and the first of them again where `twice` says so.
+fn listed(count: usize, twice: bool) -> Vec<u8> {
+    let mut names: Vec<u8> = (0..count).flat_map(|i| [(i / 180) as u8 + 40, (i % 180) as u8 + 40, 32]).collect();
+    if twice {
+        names.extend_from_within(..2);
+    }
+    [b".model m\n.inputs ", names.as_slice(), b"\n.end\n"].concat()
+}
+
+#[test]
+fn the_bound_is_enough_for_the_longest_texts() {
+    let importing = || {
+        let mut random = Random::new(20260109);
+        let caller = Caller { leaves: 6, top: 64, horizon: H.1, table: 64, level: 1 };
+        let mut met = [0; 12];
+        let mut import_in = |text: &[u8], room: usize| met[import(text, &caller, &mut vec![0; room]).number as usize] += 1;
+        for _ in 0..20 {
+            let whole = greatest(&mut random);
+            let nodes = whole.nodes.into_iter().map(|node| if node.operands.is_empty() { input() } else { table(node.output, &node.operands) });
+            let text = abc(&mut random, &Sheet { nodes: nodes.collect(), differences: Vec::new(), ..whole });
+            import_in(&text, 12_000);
+            import_in(&text, 0);
+        }
+        for count in [2, 255, 256, 257, 5_000, 21_000] {
+            import_in(&listed(count, false), 12_000);
+            import_in(&listed(count, true), 12_000);
+        }
+        // As many words as a text can have, and as many lines.
+        import_in(&[b".model m\n.inputs".as_slice(), &b" a".repeat(32_758)].concat(), 0);
+        import_in(&b"\n".repeat(65_536), 0);
+        met
+    };
+    let met = within_the_bound("maps_import", importing);
+    println!("texts by number: {met:?}");
+    assert_eq!(met, [23, 0, 0, 0, 0, 0, 0, 0, 20, 1, 7, 3]);
 }
