@@ -57,7 +57,7 @@ module _ (text : List ℕ) (c : Caller) (M : Model) (f : modelOf text ≡ found 
       ap (refusal 10) (sym (q .3)) ∙ sym (import-undefined text c M (q .0) (q .1) f (q .2) h (short-enough text l) room)
 
 -- nothing is kept at first
-pub nothing-kept : (d : ℕ) → Kept d [] (replicate 8960 0) (replicate 1280 0) (replicate 1536 0) 0 0
+pub nothing-kept : (d : ℕ) → Kept d [] (replicate 9216 0) (replicate 1280 0) (replicate 1536 0) 0 0
 nothing-kept d =
     record { listed = listed-none; named = refl; rows = refl; ids = refl; closed = refl; few = omega arith; wide = length-replicate {A = ℕ} 1280 0; long = length-replicate {A = ℕ} 1536 0 }
 

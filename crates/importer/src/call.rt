@@ -71,7 +71,7 @@ pub fn import_text(
     ensures { λ r. ⌜ ((c : Caller) → callable c ≡ true → c .leaves ≡ leaves → c .top ≡ top → c .horizon ≡ horizon → Delay c ≡ delay
         → Answered (importing (now (text .entry)) c (length (now (buffer .entry)))) (numberAnswered r) (placeAnswered r) (now (buffer .entry)) (now (buffer .exit))) ⌝ }
 {
-    let mut names = [0u32; 8960];
+    let mut names = [0u32; 9216];
     let mut nodes = [0u32; 1280];
     let mut operands = [0u32; 1536];
     let model = read_model(text, delay, &mut names, &mut nodes, &mut operands);

@@ -11,7 +11,8 @@ use Rattle.maps.specs.Lists.{equal}
 use Rattle.blif.specs.Words.{Word}
 use Rattle.blif.specs.Import.{idOf}
 use Rattle.blif.proofs.Naming.{equal-true, equal-of}
-use Rattle.names.specs.Table.{headPlace, linkPlace, nameIn, namesIn, bucketOf, bucketIn, lastIn, Listed}
+use Rattle.scan.specs.Hash.{hashOf}
+use Rattle.names.specs.Table.{headPlace, linkPlace, hashPlace, nameIn, namesIn, bucketOf, bucketIn, lastIn, Listed}
 use Rattle.names.proofs.Ids.{id-none, id-at}
 use Rattle.names.proofs.Buckets.{last-le, last-hit, last-none}
 use Rattle.names.proofs.Tables.{length-names, name-of, bucket-inside}
@@ -56,6 +57,14 @@ module _ {table : List ℕ} {count : ℕ} (k : Listed table count) (w : Word) wh
             let y : equal w (nameIn table (e - 1)) ≡ true = equal-of _ _ (sym q ∙ ap (nameIn table) (eqb-true i (e - 1) x)) in
             let z : _≡_ {A = ℕ} 0 1 = cc in omega arith
         go i m b q false x = s .later i (let n = eqb-false i (e - 1) x in omega arith) b q
+
+    -- equal names have equal hashes
+    pub search-differs : (getD table (hashPlace (e - 1)) 0 ≡ hashOf w → ⊥) → equal w (nameIn table (e - 1)) ≡ false
+    search-differs d = go (equal w (nameIn table (e - 1))) refl
+      where
+        go : (b : Bool) → equal w (nameIn table (e - 1)) ≡ b → b ≡ false
+        go true q = absurd (d (k .hashes (e - 1) (omega (arith, s .within)) ∙ ap hashOf (sym (equal-true _ _ q))))
+        go false q = refl
 
     pub search-finds : equal w (nameIn table (e - 1)) ≡ true → e - 1 ≡ idOf (namesIn table count) w
     search-finds d =

@@ -20,15 +20,18 @@ buckets = 512
 abbrev pub rowSize : ℕ
 rowSize = nameMost + 1
 
--- the cells of the table: the head of a list, the link of a name to the next in its list, the length of a name, its bytes
+-- the cells of the table: the head of a list, the link of a name to the next in its list, the hash of a name, its length, its bytes
 abbrev pub headPlace : (bucket : ℕ) → ℕ
 headPlace b = b
 
 abbrev pub linkPlace : (id : ℕ) → ℕ
 linkPlace i = buckets + i
 
+abbrev pub hashPlace : (id : ℕ) → ℕ
+hashPlace i = linkPlace (sizeRange .high) + i
+
 abbrev pub rowPlace : (id : ℕ) → ℕ
-rowPlace i = buckets + sizeRange .high + rowSize * i
+rowPlace i = hashPlace (sizeRange .high) + rowSize * i
 
 abbrev pub bytePlace : (id j : ℕ) → ℕ
 bytePlace i j = rowPlace i + 1 + j
@@ -65,6 +68,7 @@ pub record Listed (table : List ℕ) (count : ℕ) : Type 0 where
   pub short : (i : ℕ) → i < count → sizeIn table i ≤ nameMost
   pub heads : (b : ℕ) → b < buckets → getD table (headPlace b) 0 ≡ lastIn (bucketIn table) b count
   pub links : (i : ℕ) → i < count → getD table (linkPlace i) 0 ≡ lastIn (bucketIn table) (bucketIn table i) i
+  pub hashes : (i : ℕ) → i < count → getD table (hashPlace i) 0 ≡ hashOf (nameIn table i)
   pub once : fresh [] (namesIn table count) ≡ true
 
 -- name i is put into its row, and the cells before stay

@@ -10,28 +10,22 @@ ghost use Rattle.blif.specs.Scan.{nameAt};
 ghost use Rattle.blif.specs.Names.{has};
 ghost use Rattle.blif.specs.Limits.{nameMost};
 ghost use Rattle.blif.specs.Import.{idOf};
-ghost use Rattle.names.specs.Table.{rowPlace, sizeIn, nameIn, namesIn, bucketOf, Listed, Stored};
+ghost use Rattle.names.specs.Table.{rowPlace, sizeIn, nameIn, namesIn, Listed, Stored};
 use scan::name_hash;
 use scan::name_next;
 
-// The heads of 512 lists, the links of 256 names, and for each name its length and its bytes, at most 31.
-pub type Names = [u32; 8960];
+// The heads of 512 lists, the links of 256 names, their hashes, and for each name its length and its bytes, at most 31.
+pub type Names = [u32; 9216];
 
 const BUCKETS: usize = 512;
 
 const LINKS: usize = 512;
 
-const ROWS: usize = 768;
+const HASHES: usize = 768;
+
+const ROWS: usize = 1024;
 
 const ROW_SIZE: usize = 32;
-
-// The bucket of the name that begins at a position.
-fn bucket_of(text: &[u8], at: usize) -> usize
-    ensures { λ r. ⌜ r ≡ bucketOf (nameAt (now (text .entry)) at) ⌝ }
-{
-    let hash = name_hash(text, at);
-    hash as usize % BUCKETS
-}
 
 // Whether the name that begins at a position is name i.
 fn is_name(text: &[u8], names: &Names, i: usize, at: usize) -> bool
@@ -60,11 +54,11 @@ pub fn id_of(text: &[u8], names: &Names, count: usize, at: usize) -> usize
     requires { ⌜ Listed (now names) count ⌝ }
     ensures { λ r. ⌜ r ≡ idOf (namesIn (now (names .entry)) count) (nameAt (now (text .entry)) at) ⌝ }
 {
-    let bucket = bucket_of(text, at);
-    let mut e = names[bucket];
+    let hash = name_hash(text, at);
+    let mut e = names[hash as usize % BUCKETS];
     while e > 0 {
         let i = e as usize - 1;
-        if is_name(text, names, i, at) {
+        if names[HASHES + i] == hash && is_name(text, names, i, at) {
             return i;
         }
         e = names[LINKS + i];
@@ -95,9 +89,11 @@ pub fn add_name(text: &[u8], names: &mut Names, count: usize, at: usize)
     ensures { λ _. ⌜ Listed (now (names .exit)) (count + 1) ⌝ }
     ensures { λ _. ⌜ namesIn (now (names .exit)) (count + 1) ≡ namesIn (now (names .entry)) count ++ (nameAt (now (text .entry)) at ∷ []) ⌝ }
 {
-    let bucket = bucket_of(text, at);
+    let hash = name_hash(text, at);
+    let bucket = hash as usize % BUCKETS;
     put_name(text, names, count, at);
     let head = names[bucket];
+    names[HASHES + count] = hash;
     names[LINKS + count] = head;
     names[bucket] = count as u32 + 1;
 }

@@ -22,11 +22,11 @@ returns c =
     let p = s .pre in
     let w = nameAt (a .text .now) (a .at) in
     let q = c .before .put-name in
-    subst (λ (b : ℕ). Added (a .names .now) (withName (q .last .1 .0) (a .count) b) (a .count) w) (sym (c .before .before .before .bucket-of .ensures))
+    subst (λ (h : ℕ). Added (a .names .now) (withName (q .last .1 .0) (a .count) h) (a .count) w) (sym (c .before .before .before .name-hash .ensures))
     (listed-more (p .0 .0) (p .0 .1) (q .ensures) (p .1 .0) (p .1 .1), names-more (p .0 .0) (p .0 .1) (q .ensures) (p .1 .0))
 
 pub add-name-spec : {M : Type 1} → statement M
 add-name-spec =
     tie.close
-    (tie.spec (λ c κs. search needs) (λ c κs. search needs) (λ c. search needs) (λ c. search needs) (λ c. omega arith) (λ c. omega arith) (λ c. omega arith)
-    (λ c. omega arith) (λ c. omega arith) (λ c. search needs) (λ c. search needs) returns)
+    (tie.spec (λ c κs. search needs) (λ c. search needs) (λ c κs. search needs) (λ c. search needs) (λ c. search needs) (λ c. omega arith) (λ c. omega arith) (λ c. omega arith)
+    (λ c. omega arith) (λ c. omega arith) (λ c. omega arith) (λ c. omega arith) (λ c. omega arith) (λ c. search needs) (λ c. search needs) returns)
