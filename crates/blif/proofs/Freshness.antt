@@ -10,7 +10,7 @@ use Rattle.blif.specs.Names.{has, fresh}
 abbrev pub apart : (names words : List Word) → Bool
 apart ns ws = all (λ w. not (has ns w)) ws
 
-pub apart-more : (n : Word) (old ws : List Word) → apart (n ∷ old) ws ≡ (apart (n ∷ []) ws && apart old ws)
+apart-more : (n : Word) (old ws : List Word) → apart (n ∷ old) ws ≡ (apart (n ∷ []) ws && apart old ws)
 apart-more n old [] = refl
 apart-more n old (w ∷ ws) = go (equal w n) (has old w) (apart (n ∷ old) ws) (apart (n ∷ []) ws) (apart old ws) (apart-more n old ws)
   where

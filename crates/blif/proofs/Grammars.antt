@@ -18,48 +18,48 @@ use Rattle.blif.proofs.Naming.{equal-true}
 
 -- a line of the subset, or none
 pub data Meant (at : Stage) (ws : List Word) : Statement → Type 0 where
-  hears : {s : Statement} → Means at ws s → Meant at ws s
-  nothing : Meant at ws outside
+  in-subset : {s : Statement} → Means at ws s → Meant at ws s
+  not-in-subset : Meant at ws outside
 
-init-last : (w : Word) (ws : List Word) → initOf w ws ++ (lastOf w ws ∷ []) ≡ w ∷ ws
+pub init-last : (w : Word) (ws : List Word) → initOf w ws ++ (lastOf w ws ∷ []) ≡ w ∷ ws
 init-last w [] = refl
 init-last w (x ∷ ws) = ap (λ l. w ∷ l) (init-last x ws)
 
-heard-names : (at : Stage) → Open at → (ws : List Word) → Meant at (bytesOf ".names" ∷ ws) (namesLine ws)
-heard-names at o [] = nothing
-heard-names at o (w ∷ ws) = hears (subst (λ l. Means at (bytesOf ".names" ∷ l) (names (initOf w ws) (lastOf w ws))) (init-last w ws) (means-names (initOf w ws) (lastOf w ws) o))
+meant-names : (at : Stage) → Open at → (ws : List Word) → Meant at (bytesOf ".names" ∷ ws) (namesLine ws)
+meant-names at o [] = not-in-subset
+meant-names at o (w ∷ ws) = in-subset (subst (λ l. Means at (bytesOf ".names" ∷ l) (names (initOf w ws) (lastOf w ws))) (init-last w ws) (means-names (initOf w ws) (lastOf w ws) o))
 
-heard-latch : (at : Stage) → Open at → (ws : List Word) → Meant at (bytesOf ".latch" ∷ ws) (latchLine ws)
-heard-latch at o [] = nothing
-heard-latch at o (w ∷ []) = nothing
-heard-latch at o (w ∷ x ∷ []) = hears (means-latch o)
-heard-latch at o (w ∷ x ∷ v ∷ []) = go (initial v) refl
+meant-latch : (at : Stage) → Open at → (ws : List Word) → Meant at (bytesOf ".latch" ∷ ws) (latchLine ws)
+meant-latch at o [] = not-in-subset
+meant-latch at o (w ∷ []) = not-in-subset
+meant-latch at o (w ∷ x ∷ []) = in-subset (means-latch o)
+meant-latch at o (w ∷ x ∷ v ∷ []) = go (initial v) refl
   where
     go : (b : Bool) → initial v ≡ b → Meant at (bytesOf ".latch" ∷ w ∷ x ∷ v ∷ []) (cond b (latch w x) outside)
-    go true e = hears (means-initial o e)
-    go false e = nothing
-heard-latch at o (w ∷ x ∷ v ∷ y ∷ ws) = nothing
+    go true e = in-subset (means-initial o e)
+    go false e = not-in-subset
+meant-latch at o (w ∷ x ∷ v ∷ y ∷ ws) = not-in-subset
 
-heard-end : (at : Stage) → Open at → (ws : List Word) → Meant at (bytesOf ".end" ∷ ws) (endLine ws)
-heard-end at o [] = hears (means-end o)
-heard-end at o (w ∷ ws) = nothing
+meant-end : (at : Stage) → Open at → (ws : List Word) → Meant at (bytesOf ".end" ∷ ws) (endLine ws)
+meant-end at o [] = in-subset (means-end o)
+meant-end at o (w ∷ ws) = not-in-subset
 
-heard-row : (n : ℕ) (ws : List Word) → Meant (cover n) ws (rowLine n ws)
-heard-row zero [] = nothing
-heard-row zero (w ∷ []) = go (bit w) refl
+meant-row : (n : ℕ) (ws : List Word) → Meant (cover n) ws (rowLine n ws)
+meant-row zero [] = not-in-subset
+meant-row zero (w ∷ []) = go (bit w) refl
   where
     go : (b : Bool) → bit w ≡ b → Meant (cover zero) (w ∷ []) (cond b row outside)
-    go true e = hears (means-row (without e))
-    go false e = nothing
-heard-row zero (w ∷ x ∷ ws) = nothing
-heard-row (suc n) [] = nothing
-heard-row (suc n) (w ∷ []) = nothing
-heard-row (suc n) (w ∷ x ∷ []) = go (literals (suc n) w && bit x) refl
+    go true e = in-subset (means-row (without e))
+    go false e = not-in-subset
+meant-row zero (w ∷ x ∷ ws) = not-in-subset
+meant-row (suc n) [] = not-in-subset
+meant-row (suc n) (w ∷ []) = not-in-subset
+meant-row (suc n) (w ∷ x ∷ []) = go (literals (suc n) w && bit x) refl
   where
     go : (b : Bool) → (literals (suc n) w && bit x) ≡ b → Meant (cover (suc n)) (w ∷ x ∷ []) (cond b row outside)
-    go true e = let a = and-true (literals (suc n) w) (bit x) e in hears (means-row (for-each (a .0) (a .1)))
-    go false e = nothing
-heard-row (suc n) (w ∷ x ∷ y ∷ ws) = nothing
+    go true e = let a = and-true (literals (suc n) w) (bit x) e in in-subset (means-row (for-each (a .0) (a .1)))
+    go false e = not-in-subset
+meant-row (suc n) (w ∷ x ∷ y ∷ ws) = not-in-subset
 
 -- a test for a directive, with what follows if it holds
 test : (at : Stage) (w d : Word) (ws : List Word) (yes no : Statement) → Meant at (d ∷ ws) yes → Meant at (w ∷ ws) no → Meant at (w ∷ ws) (cond (equal w d) yes no)
@@ -69,28 +69,28 @@ test at w d ws s r hs hr = go (equal w d) refl
     go true e = subst (λ x. Meant at (x ∷ ws) s) (sym (equal-true w d e)) hs
     go false e = hr
 
-heard-body : (at : Stage) → Open at → (w : Word) (ws : List Word) (other : Statement) → Meant at (w ∷ ws) other → Meant at (w ∷ ws) (bodyLine w ws other)
-heard-body at o w ws other h =
-    test at w (bytesOf ".names") ws (namesLine ws) _ (heard-names at o ws)
-    (test at w (bytesOf ".latch") ws (latchLine ws) _ (heard-latch at o ws)
-    (test at w (bytesOf ".end") ws (endLine ws) other (heard-end at o ws) h))
+meant-body : (at : Stage) → Open at → (w : Word) (ws : List Word) (other : Statement) → Meant at (w ∷ ws) other → Meant at (w ∷ ws) (bodyLine w ws other)
+meant-body at o w ws other h =
+    test at w (bytesOf ".names") ws (namesLine ws) _ (meant-names at o ws)
+    (test at w (bytesOf ".latch") ws (latchLine ws) _ (meant-latch at o ws)
+    (test at w (bytesOf ".end") ws (endLine ws) other (meant-end at o ws) h))
 
-heard-model : (ws : List Word) → Meant first (bytesOf ".model" ∷ ws) (modelLine ws)
-heard-model [] = nothing
-heard-model (w ∷ []) = hears means-model
-heard-model (w ∷ x ∷ ws) = nothing
+meant-model : (ws : List Word) → Meant first (bytesOf ".model" ∷ ws) (modelLine ws)
+meant-model [] = not-in-subset
+meant-model (w ∷ []) = in-subset means-model
+meant-model (w ∷ x ∷ ws) = not-in-subset
 
 -- what is found is a line of the subset, or outside
 pub meant : (at : Stage) (ws : List Word) → Meant at ws (statement at ws)
 unfolding statement
-meant at [] = nothing
-meant first (w ∷ ws) = test first w (bytesOf ".model") ws (modelLine ws) outside (heard-model ws) nothing
+meant at [] = not-in-subset
+meant first (w ∷ ws) = test first w (bytesOf ".model") ws (modelLine ws) outside (meant-model ws) not-in-subset
 meant head (w ∷ ws) =
-    test head w (bytesOf ".inputs") ws (inputs ws) _ (hears means-inputs)
-    (test head w (bytesOf ".outputs") ws (outputs ws) _ (hears means-outputs) (heard-body head in-head w ws outside nothing))
-meant (cover n) (w ∷ ws) = heard-body (cover n) in-cover w ws (rowLine n (w ∷ ws)) (heard-row n (w ∷ ws))
-meant latched (w ∷ ws) = heard-body latched in-latched w ws outside nothing
-meant last (w ∷ ws) = nothing
+    test head w (bytesOf ".inputs") ws (inputs ws) _ (in-subset means-inputs)
+    (test head w (bytesOf ".outputs") ws (outputs ws) _ (in-subset means-outputs) (meant-body head in-head w ws outside not-in-subset))
+meant (cover n) (w ∷ ws) = meant-body (cover n) in-cover w ws (rowLine n (w ∷ ws)) (meant-row n (w ∷ ws))
+meant latched (w ∷ ws) = meant-body latched in-latched w ws outside not-in-subset
+meant last (w ∷ ws) = not-in-subset
 
 -- and every line of the subset is found
 names-last : (us : List Word) (o : Word) → namesLine (us ++ (o ∷ [])) ≡ names us o

@@ -21,7 +21,7 @@ use Rattle.blif.specs.Model.{Model, isOutside, fault}
 use Rattle.blif.specs.Grounds.{NameFault, early, twice, LimitFault, long-name, many-operands, many-nodes, no-nodes, GroundOf, by-form, by-name, by-limit, Right}
 use Rattle.blif.proofs.Naming.{equal-true, equal-self}
 use Rattle.blif.proofs.Ordering.{clash}
-use Rattle.blif.proofs.Grammars.{Meant, hears, nothing, meant, statement-of}
+use Rattle.blif.proofs.Grammars.{Meant, in-subset, not-in-subset, meant, statement-of}
 
 -- a test that holds of all, and one that fails of some
 all-at : {A : Type 0} (p : A → Bool) {x : A} (xs : List A) → all p xs ≡ true → List·Memᴰ x xs → p x ≡ true
@@ -36,13 +36,13 @@ all-lacks {A} p (x ∷ xs) e = go (all-lacks p xs) (and-false (p x) (all p xs) e
     go rec (inl h) = (x, List·Memᴰ·head refl, h)
     go rec (inr h) = let r = rec h in (r .0, List·Memᴰ·tail (r .1), r .2)
 
-pub denied : (b : Bool) → (b ≡ true → ⊥) → b ≡ false
-denied true h = absurd (h refl)
-denied false h = refl
+pub is-false : (b : Bool) → (b ≡ true → ⊥) → b ≡ false
+is-false true h = absurd (h refl)
+is-false false h = refl
 
-held : (b : Bool) → (b ≡ false → ⊥) → b ≡ true
-held true h = refl
-held false h = absurd (h refl)
+is-true : (b : Bool) → (b ≡ false → ⊥) → b ≡ true
+is-true true h = refl
+is-true false h = absurd (h refl)
 
 -- the test whether a name is there
 pub has-in : (ns : List Word) (w : Word) → List·Memᴰ w ns → has ns w ≡ true
@@ -246,28 +246,28 @@ judge at M ws = go (statement at ws) refl (meant at ws)
     named s m false e = refused (by-name s m (names-faulty M s e))
 
     go : (s : Statement) → statement at ws ≡ s → Meant at ws s → Judged at M ws s (fault M s)
-    go s q (hears m) = rw (inside at ws s m) (named s m (resolves (namesOf (M .definitions)) (defined s)) refl)
-    go outside q nothing = refused (by-form (λ s m. clash (isOutside s) (ap isOutside (sym (statement-of at ws s m) ∙ q)) (inside at ws s m)))
+    go s q (in-subset m) = rw (inside at ws s m) (named s m (resolves (namesOf (M .definitions)) (defined s)) refl)
+    go outside q not-in-subset = refused (by-form (λ s m. clash (isOutside s) (ap isOutside (sym (statement-of at ws s m) ∙ q)) (inside at ws s m)))
 
 -- each ground is found
 pub ground-found : (at : Stage) (M : Model) (ws : List Word) (k : ℕ) → GroundOf at M ws k → fault M (statement at ws) ≡ k
 ground-found at M ws _ (by-form h) = go (statement at ws) (meant at ws)
   where
     go : (s : Statement) → Meant at ws s → fault M s ≡ 9
-    go s (hears m) = absurd (h s m)
-    go outside nothing = refl
+    go s (in-subset m) = absurd (h s m)
+    go outside not-in-subset = refl
 ground-found at M ws _ (by-name s m f) =
-    let r = denied (resolves (namesOf (M .definitions)) (defined s)) (λ e. names-right M s e f) in
+    let r = is-false (resolves (namesOf (M .definitions)) (defined s)) (λ e. names-right M s e f) in
     ap (fault M) (statement-of at ws s m) ∙ rw (inside at ws s m, r) refl
 ground-found at M ws _ (by-limit s m n f) =
-    let r = held (resolves (namesOf (M .definitions)) (defined s)) (λ e. n (names-faulty M s e)) in
-    let l = denied (withinLimits (length (M .definitions)) s) (λ e. limits-right M s e f) in
+    let r = is-true (resolves (namesOf (M .definitions)) (defined s)) (λ e. n (names-faulty M s e)) in
+    let l = is-false (withinLimits (length (M .definitions)) s) (λ e. limits-right M s e f) in
     ap (fault M) (statement-of at ws s m) ∙ rw (inside at ws s m, r, l) refl
 
 pub right-found : (at : Stage) (M : Model) (ws : List Word) (s : Statement) → Right at M ws s → (statement at ws ≡ s) × (fault M s ≡ 0)
 right-found at M ws s h =
-    let r = held (resolves (namesOf (M .definitions)) (defined s)) (λ e. h .names (names-faulty M s e)) in
-    let l = held (withinLimits (length (M .definitions)) s) (λ e. h .limits (limits-faulty M s e)) in
+    let r = is-true (resolves (namesOf (M .definitions)) (defined s)) (λ e. h .names (names-faulty M s e)) in
+    let l = is-true (withinLimits (length (M .definitions)) s) (λ e. h .limits (limits-faulty M s e)) in
     (statement-of at ws s (h .form), rw (inside at ws s (h .form), r, l) refl)
 
 -- a ground has a number

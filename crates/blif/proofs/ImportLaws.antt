@@ -23,7 +23,7 @@ use Rattle.blif.specs.Import.{sheetOf, Imported, imported, refused, with
 use Rattle.blif.specs.ImportLaws.{Barred, Way, ImportLaws}
 use Rattle.blif.specs.ImportLaws as W
 use Rattle.blif.proofs.Ordering.{clash}
-use Rattle.blif.proofs.GroundsOf.{denied, has-in, has-out}
+use Rattle.blif.proofs.GroundsOf.{is-false, has-in, has-out}
 use Rattle.blif.proofs.FirstFaults.{lines-end-so, no-other-end}
 use Rattle.blif.proofs.Sheets.{callable-true, callable-of, imported-is, imported-well}
 
@@ -35,7 +35,7 @@ answered-test : (ds : List Definition) (o : OutputName) → Answered ds o → mi
 answered-test ds o m = ap not (has-in (namesOf ds) (o .name) m)
 
 undefined-test : (ds : List Definition) (o : OutputName) → (Answered ds o → ⊥) → missing ds o ≡ true
-undefined-test ds o u = ap not (denied (has (namesOf ds) (o .name)) (λ e. u (has-out (namesOf ds) (o .name) e)))
+undefined-test ds o u = ap not (is-false (has (namesOf ds) (o .name)) (λ e. u (has-out (namesOf ds) (o .name) e)))
 
 none-kept : (ds : List Definition) (os : List OutputName) → All (Answered ds) os → keep (missing ds) os ≡ []
 none-kept ds [] h = refl
@@ -75,7 +75,7 @@ module _ (text : List ℕ) (c : Caller) where
   tested b e = ap (λ b. elim b as (λ b. Imported) [ true ↦ ofFound c (modelOf text) | false ↦ refused 11 0 ]) e
 
   barred : Barred text c → importSheet text c ≡ refused 11 0
-  barred h = tested false (denied (callable c && short text) (λ e. go (and-true (callable c) (short text) e) h))
+  barred h = tested false (is-false (callable c && short text) (λ e. go (and-true (callable c) (short text) e) h))
     where
       go : (callable c ≡ true) × (short text ≡ true) → Barred text c → ⊥
       go e (inl h) = h (callable-true c (e .0))

@@ -54,19 +54,19 @@ unfolding linesOf
 line-numbers text = word-numbers 1 (length (lines text)) (joined 1 (lines text)) (joined-numbers 1 (lines text))
 
 -- the lines of names put out
-asks-here : (n k at : ℕ) (s : Statement) → In n k at → All (λ (o : OutputName). In n k (o .line)) (outputNames at s)
-asks-here n k at (model m) h = tt
-asks-here n k at (inputs ns) h = tt
-asks-here n k at (outputs ns) h = go ns
+output-numbers : (n k at : ℕ) (s : Statement) → In n k at → All (λ (o : OutputName). In n k (o .line)) (outputNames at s)
+output-numbers n k at (model m) h = tt
+output-numbers n k at (inputs ns) h = tt
+output-numbers n k at (outputs ns) h = go ns
   where
     go : (ns : List Word) → All (λ (o : OutputName). In n k (o .line)) (map (λ w. record { line = at; name = w }) ns)
     go [] = tt
     go (w ∷ ws) = (h, go ws)
-asks-here n k at (names us o) h = tt
-asks-here n k at row h = tt
-asks-here n k at (latch i o) h = tt
-asks-here n k at end h = tt
-asks-here n k at outside h = tt
+output-numbers n k at (names us o) h = tt
+output-numbers n k at row h = tt
+output-numbers n k at (latch i o) h = tt
+output-numbers n k at end h = tt
+output-numbers n k at outside h = tt
 
 -- how lines end: a fault at one of them or past them, or names put out on them
 data Placed (m : ℕ) : Found → Type 0 where
@@ -87,7 +87,7 @@ follow-placed m at M (l ∷ ls) h g =
     let s = statement at (l .words) in
     judge (fault M s) (modelFrom (m + 1) (stageAfter at s) (extend M (l .number) s) ls)
     (follow-placed m (stageAfter at s) (extend M (l .number) s) ls (h .1)
-    (All-join (λ (o : OutputName). In 1 m (o .line)) (M .outputs) (outputNames (l .number) s) g (asks-here 1 m (l .number) s (h .0))))
+    (All-join (λ (o : OutputName). In 1 m (o .line)) (M .outputs) (outputNames (l .number) s) g (output-numbers 1 m (l .number) s (h .0))))
   where
     judge : (k : ℕ) (rest : Found) → Placed m rest → Placed m (judged k (l .number) rest)
     judge zero rest r = r

@@ -1,12 +1,13 @@
 -- The scanner's laws by position: what one turn of each loop over the text finds at position `at`.
 use Prim.Native.Nat.{ℕ, suc, _+_, _≤_, _<_}
 use mathlib.Core.Path.{_≡_, refl, sym, subst, ap, _∙_}
-use mathlib.Core.Bool.{Bool, true, false, cond, _&&_, _||_, not}
+use mathlib.Core.Bool.{Bool, true, false, cond, _&&_, _||_, not, and-true}
 use mathlib.Core.List.{List, [], _∷_, _++_}
 use native.Mathlib.Omega.{arith}
 use lib.Dec.{eqb, leb}
-use lib.ListN.{length, take, drop, take-append-drop, drop-of-length-le}
-use lib.Seq.{drop-cons, drop-drop}
+use native.Mathlib.Numerals.{add-one}
+use lib.ListN.{length, getD, take, drop, take-append-drop, drop-of-length-le}
+use lib.Seq.{take-suc, drop-cons, drop-drop}
 use borrow.Author.Tests.{leb-true, leb-false}
 use Rattle.maps.specs.Number.{byteAt}
 use Rattle.blif.specs.Lines.{lines, joined, onto}
@@ -16,18 +17,18 @@ use Rattle.blif.proofs.Scanning.{FirstLine, first-line, lines-some}
 
 -- the byte at a position, and those after it
 pub at-cons : (s : List ℕ) (at : ℕ) → at < length s → drop at s ≡ byteAt s at ∷ drop (at + 1) s
-at-cons s at l = let e : suc at ≡ at + 1 = omega arith in drop-cons s at 0 l ∙ ap (λ n. byteAt s at ∷ drop n s) e
+at-cons s at l = drop-cons s at 0 l ∙ ap (λ n. byteAt s at ∷ drop n s) (sym (add-one at))
+
+-- one element more of a list of which the first i are taken
+pub take-next : {A : Type 0} (l : List A) (i : ℕ) (d : A) → i < length l → take (i + 1) l ≡ take i l ++ (getD l i d ∷ [])
+take-next l i d h = ap (λ (n : ℕ). take n l) (add-one i) ∙ take-suc l i d h
 
 -- a backslash joins at a position just where it joins before the rest
 join-rest : (s : List ℕ) (at : ℕ) → at < length s → joinsHere (byteAt s at) (drop (at + 1) s) ≡ joinAt s at
 join-rest s at l = go (leb (length s) (at + 1)) refl
   where
     go : (x : Bool) → leb (length s) (at + 1) ≡ x → joinsHere (byteAt s at) (drop (at + 1) s) ≡ (eqb (byteAt s at) 92 && (x || eqb (byteAt s (at + 1)) 10))
-    go true e = ap (joinsHere (byteAt s at)) (drop-of-length-le s (leb-true (length s) (at + 1) e)) ∙ sym (and-true-right (eqb (byteAt s at) 92))
-      where
-        and-true-right : (a : Bool) → (a && true) ≡ a
-        and-true-right true = refl
-        and-true-right false = refl
+    go true e = ap (joinsHere (byteAt s at)) (drop-of-length-le s (leb-true (length s) (at + 1) e)) ∙ sym (and-true (eqb (byteAt s at) 92))
     go false e = ap (joinsHere (byteAt s at)) (at-cons s (at + 1) (leb-false (length s) (at + 1) e))
 
 -- one byte further

@@ -13,8 +13,8 @@ use Rattle.blif.specs.Scan.{until, from, endsLine, past, pastLine, newli
 -- what a byte is
 data Class (b : ℕ) : Type 0 where
   newline : b ≡ 10 → Class b
-  hash : b ≡ 35 → Class b
-  slash : b ≡ 92 → Class b
+  comment : b ≡ 35 → Class b
+  backslash : b ≡ 92 → Class b
   other : eqb b 10 ≡ false → eqb b 35 ≡ false → eqb b 92 ≡ false → Class b
 
 class : (b : ℕ) → Class b
@@ -22,8 +22,8 @@ class b = go (eqb b 10) (eqb b 35) (eqb b 92) refl refl refl
   where
     go : (x y z : Bool) → eqb b 10 ≡ x → eqb b 35 ≡ y → eqb b 92 ≡ z → Class b
     go true y z e f g = newline (eqb-true b 10 e)
-    go false true z e f g = hash (eqb-true b 35 f)
-    go false false true e f g = slash (eqb-true b 92 g)
+    go false true z e f g = comment (eqb-true b 35 f)
+    go false false true e f g = backslash (eqb-true b 92 g)
     go false false false e f g = other e f g
 
 -- the first line of a text
@@ -81,12 +81,12 @@ pub record FirstLine (n : ℕ) (t : List ℕ) : Type 0 where
   pub counted : newlines t ≡ count + newlines (pastLine t)
   pub law : joined n (lines t) ≡ numbered n (until endsLine t) ∷ joined (n + count) (lines (pastLine t))
 
--- a byte more in front of the first of joined lines
-abbrev more : ℕ → List Joined → List Joined
-more b [] = []
-more b (l ∷ ls) = numbered (l .number) (b ∷ l .bytes) ∷ ls
+-- a byte ontoFirst in front of the first of joined lines
+abbrev ontoFirst : ℕ → List Joined → List Joined
+ontoFirst b [] = []
+ontoFirst b (l ∷ ls) = numbered (l .number) (b ∷ l .bytes) ∷ ls
 
-put-after : (n b : ℕ) (p : Part) (js : List Joined) → joinedAfter n (after b p) js ≡ more b (joinedAfter n p js)
+put-after : (n b : ℕ) (p : Part) (js : List Joined) → joinedAfter n (after b p) js ≡ ontoFirst b (joinedAfter n p js)
 put-after n b (ends bytes) js = refl
 put-after n b (joins bytes) [] = refl
 put-after n b (joins bytes) (j ∷ js) = refl
@@ -95,23 +95,23 @@ lines-more : (b c : ℕ) (t l : List ℕ) (ls : List (List ℕ)) → lines (c �
 unfolding lines
 lines-more b c t l ls e f = rw f (ap (onto b) e)
 
-part-more : (n b : ℕ) (l : List ℕ) (ls : List (List ℕ)) → part (b ∷ l) ≡ after b (part l) → joined n ((b ∷ l) ∷ ls) ≡ more b (joined n (l ∷ ls))
+part-more : (n b : ℕ) (l : List ℕ) (ls : List (List ℕ)) → part (b ∷ l) ≡ after b (part l) → joined n ((b ∷ l) ∷ ls) ≡ ontoFirst b (joined n (l ∷ ls))
 unfolding joined
 part-more n b l ls g = ap (λ p. joinedAfter n p (joined (suc n) ls)) g ∙ put-after n b (part l) (joined (suc n) ls)
 
-joined-more : (n b c : ℕ) (t l : List ℕ) (ls : List (List ℕ)) → lines (c ∷ t) ≡ l ∷ ls → eqb b 10 ≡ false → part (b ∷ l) ≡ after b (part l) → joined n (lines (b ∷ c ∷ t)) ≡ more b (joined n (lines (c ∷ t)))
-joined-more n b c t l ls e f g = ap (joined n) (lines-more b c t l ls e f) ∙ part-more n b l ls g ∙ ap (λ ks. more b (joined n ks)) (sym e)
+joined-more : (n b c : ℕ) (t l : List ℕ) (ls : List (List ℕ)) → lines (c ∷ t) ≡ l ∷ ls → eqb b 10 ≡ false → part (b ∷ l) ≡ after b (part l) → joined n (lines (b ∷ c ∷ t)) ≡ ontoFirst b (joined n (lines (c ∷ t)))
+joined-more n b c t l ls e f g = ap (joined n) (lines-more b c t l ls e f) ∙ part-more n b l ls g ∙ ap (λ ks. ontoFirst b (joined n ks)) (sym e)
 
 -- the functions at a byte that neither joins nor stops
 newlines-more : (b : ℕ) (t : List ℕ) → eqb b 10 ≡ false → newlines (b ∷ t) ≡ newlines t
 unfolding newlines
 newlines-more b t e = rw e refl
 
-pub until-more : (stop : ℕ → Bool) (b c : ℕ) (t : List ℕ) → (eqb b 92 && eqb c 10) ≡ false → stop b ≡ false → until stop (b ∷ c ∷ t) ≡ b ∷ until stop (c ∷ t)
+until-more : (stop : ℕ → Bool) (b c : ℕ) (t : List ℕ) → (eqb b 92 && eqb c 10) ≡ false → stop b ≡ false → until stop (b ∷ c ∷ t) ≡ b ∷ until stop (c ∷ t)
 unfolding until
 until-more stop b c t e f = rw (e, f) refl
 
-pub from-more : (stop : ℕ → Bool) (b c : ℕ) (t : List ℕ) → (eqb b 92 && eqb c 10) ≡ false → stop b ≡ false → from stop (b ∷ c ∷ t) ≡ from stop (c ∷ t)
+from-more : (stop : ℕ → Bool) (b c : ℕ) (t : List ℕ) → (eqb b 92 && eqb c 10) ≡ false → stop b ≡ false → from stop (b ∷ c ∷ t) ≡ from stop (c ∷ t)
 unfolding from
 from-more stop b c t e f = rw (e, f) refl
 
@@ -120,44 +120,44 @@ unfolding pastLine
 past-more b c t e f = ap past (from-more endsLine b c t e f)
 
 -- a byte that neither joins nor ends a line is the line's next byte
-plain : (n b c : ℕ) (t : List ℕ) → eqb b 10 ≡ false → endsLine b ≡ false → (eqb b 92 && eqb c 10) ≡ false → (l : List ℕ) (ls : List (List ℕ)) → lines (c ∷ t) ≡ l ∷ ls → part (b ∷ l) ≡ after b (part l) → FirstLine n (c ∷ t) → FirstLine n (b ∷ c ∷ t)
-plain n b c t e10 es ej l ls el ep r = record {
+byte-first : (n b c : ℕ) (t : List ℕ) → eqb b 10 ≡ false → endsLine b ≡ false → (eqb b 92 && eqb c 10) ≡ false → (l : List ℕ) (ls : List (List ℕ)) → lines (c ∷ t) ≡ l ∷ ls → part (b ∷ l) ≡ after b (part l) → FirstLine n (c ∷ t) → FirstLine n (b ∷ c ∷ t)
+byte-first n b c t e10 es ej l ls el ep r = record {
   count = r .count;
   counted = newlines-more b (c ∷ t) e10 ∙ r .counted ∙ ap (λ x. r .count + newlines x) (sym (past-more b c t ej es));
   law =
-      joined-more n b c t l ls el e10 ep ∙ ap (more b) (r .law)
+      joined-more n b c t l ls el e10 ep ∙ ap (ontoFirst b) (r .law)
       ∙ ap (λ x. numbered n x ∷ joined (n + r .count) (lines (pastLine (c ∷ t)))) (sym (until-more endsLine b c t ej es))
       ∙ ap (λ x. numbered n (until endsLine (b ∷ c ∷ t)) ∷ joined (n + r .count) (lines x)) (sym (past-more b c t ej es));
 }
 
--- a line that is alone
-alone : (n b : ℕ) → FirstLine n (b ∷ [])
+-- a line that is one-byte
+one-byte : (n b : ℕ) → FirstLine n (b ∷ [])
 unfolding joined lines until pastLine newlines
-alone n b = go (class b)
+one-byte n b = go (class b)
   where
     go : Class b → FirstLine n (b ∷ [])
     go (newline e) = rw e (record { count = 1; counted = refl; law = refl })
-    go (hash e) = rw e (record { count = 0; counted = refl; law = refl })
-    go (slash e) = rw e (record { count = 0; counted = refl; law = refl })
+    go (comment e) = rw e (record { count = 0; counted = refl; law = refl })
+    go (backslash e) = rw e (record { count = 0; counted = refl; law = refl })
     go (other e f g) = record { count = 0; counted = rw (e, f, g) refl; law = rw (e, f, g) refl }
 
 -- the line ends at a byte 10
-broken : (n c : ℕ) (t : List ℕ) → FirstLine n (10 ∷ c ∷ t)
+newline-first : (n c : ℕ) (t : List ℕ) → FirstLine n (10 ∷ c ∷ t)
 unfolding joined lines until pastLine newlines
-broken n c t = record { count = 1; counted = omega arith; law = ap (λ k. numbered n [] ∷ joined k (lines (c ∷ t))) (omega arith) }
+newline-first n c t = record { count = 1; counted = omega arith; law = ap (λ k. numbered n [] ∷ joined k (lines (c ∷ t))) (omega arith) }
 
 -- the line ends at a comment
-commented : (n c : ℕ) (t : List ℕ) → FirstLine n (35 ∷ c ∷ t)
+comment-first : (n c : ℕ) (t : List ℕ) → FirstLine n (35 ∷ c ∷ t)
 unfolding joined lines until pastLine newlines
-commented n c t = go (past-newlines (c ∷ t)) (lines-some c t)
+comment-first n c t = go (past-newlines (c ∷ t)) (lines-some c t)
   where
-    hashed : (l : List ℕ) → part (35 ∷ l) ≡ ends []
-    hashed [] = refl
-    hashed (x ∷ l) = refl
+    comment-part : (l : List ℕ) → part (35 ∷ l) ≡ ends []
+    comment-part [] = refl
+    comment-part (x ∷ l) = refl
 
     there : (l : List ℕ) (ls : List (List ℕ)) → lines (c ∷ t) ≡ l ∷ ls → joined n (lines (35 ∷ c ∷ t)) ≡ numbered n [] ∷ joined (suc n) (lines (past (c ∷ t)))
     there l ls e =
-        ap (λ ks. joined n (onto 35 ks)) e ∙ ap (λ p. joinedAfter n p (joined (suc n) ls)) (hashed l)
+        ap (λ ks. joined n (onto 35 ks)) e ∙ ap (λ p. joinedAfter n p (joined (suc n) ls)) (comment-part l)
         ∙ ap (λ ks. numbered n [] ∷ joined (suc n) ks) (sym (past-lines (c ∷ t) l ls e))
 
     go : (past (c ∷ t) ≡ []) ⊎ (newlines (c ∷ t) ≡ suc (newlines (past (c ∷ t)))) → (l : List ℕ) × (ls : List (List ℕ)) × (lines (c ∷ t) ≡ l ∷ ls) → FirstLine n (35 ∷ c ∷ t)
@@ -177,10 +177,10 @@ data Next (n : ℕ) : List ℕ → Type 0 where
   none : Next n []
   some : {d : ℕ} {t : List ℕ} → FirstLine n (d ∷ t) → Next n (d ∷ t)
 
-joining : (n : ℕ) (t : List ℕ) → Next (suc n) t → FirstLine n (92 ∷ 10 ∷ t)
+join-first : (n : ℕ) (t : List ℕ) → Next (suc n) t → FirstLine n (92 ∷ 10 ∷ t)
 unfolding joined lines until pastLine newlines
-joining n [] none = record { count = 1; counted = refl; law = refl }
-joining n (d ∷ t) (some r) = record {
+join-first n [] none = record { count = 1; counted = refl; law = refl }
+join-first n (d ∷ t) (some r) = record {
   count = suc (r .count);
   counted = omega (arith, r .counted);
   law = ap (joinedTo n []) (r .law) ∙ ap (λ k. numbered n (until endsLine (d ∷ t)) ∷ joined k (lines (pastLine (d ∷ t)))) (omega arith);
@@ -192,33 +192,29 @@ unfolding part
 part-plain b [] e f = rw (e, f) refl
 part-plain b (x ∷ l) e f = rw e refl
 
-part-slash : (c : ℕ) (l : List ℕ) → part (92 ∷ c ∷ l) ≡ after 92 (part (c ∷ l))
+part-backslash : (c : ℕ) (l : List ℕ) → part (92 ∷ c ∷ l) ≡ after 92 (part (c ∷ l))
 unfolding part
-part-slash c l = refl
-
-and-right : (a b : Bool) → b ≡ false → (a && b) ≡ false
-and-right true b e = e
-and-right false b e = refl
+part-backslash c l = refl
 
 turn : (n b c : ℕ) (t : List ℕ) → FirstLine n (c ∷ t) → Next (suc n) t → FirstLine n (b ∷ c ∷ t)
 turn n b c t r k = go (class b)
   where
-    backslash : (x : Bool) → eqb c 10 ≡ x → FirstLine n (92 ∷ c ∷ t)
-    backslash true e = rw (eqb-true c 10 e) (joining n t k)
-    backslash false e =
+    backslash-first : (x : Bool) → eqb c 10 ≡ x → FirstLine n (92 ∷ c ∷ t)
+    backslash-first true e = rw (eqb-true c 10 e) (join-first n t k)
+    backslash-first false e =
         let f = lines-first c t e in
-        plain n 92 c t refl refl (and-right (eqb 92 92) (eqb c 10) e) (c ∷ f .0) (f .1) (f .2) (part-slash c (f .0)) r
+        byte-first n 92 c t refl refl e (c ∷ f .0) (f .1) (f .2) (part-backslash c (f .0)) r
 
     go : Class b → FirstLine n (b ∷ c ∷ t)
-    go (newline e) = rw e (broken n c t)
-    go (hash e) = rw e (commented n c t)
-    go (slash e) = rw e (backslash (eqb c 10) refl)
+    go (newline e) = rw e (newline-first n c t)
+    go (comment e) = rw e (comment-first n c t)
+    go (backslash e) = rw e (backslash-first (eqb c 10) refl)
     go (other e f g) =
         let s = lines-some c t in
-        plain n b c t e (rw e f) (rw g refl) (s .0) (s .1) (s .2) (part-plain b (s .0) f g) r
+        byte-first n b c t e (rw e f) (rw g refl) (s .0) (s .1) (s .2) (part-plain b (s .0) f g) r
 
 -- a text that is not empty: its first joined line, and the rest
 pub first-line : (n b : ℕ) (t : List ℕ) → FirstLine n (b ∷ t)
-first-line n b [] = alone n b
+first-line n b [] = one-byte n b
 first-line n b (c ∷ []) = turn n b c [] (first-line n c []) none
 first-line n b (c ∷ d ∷ t) = turn n b c (d ∷ t) (first-line n c (d ∷ t)) (some (first-line (suc n) d t))

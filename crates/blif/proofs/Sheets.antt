@@ -14,7 +14,8 @@ use Rattle.maps.specs.Limits.{Range, leavesRange, topRange, horizonRange, range
 use Rattle.maps.specs.Form.{among, passes}
 use Rattle.maps.specs.WellFormed.{Within, codeOf, WellNode, WellFormed}
 use Rattle.maps.proofs.Over.{and-true}
-use Rattle.maps.proofs.Member.{All-get, any-found, any-of, keep-in}
+use Rattle.maps.proofs.Parse.{in-range}
+use Rattle.maps.proofs.Member.{All-map, All-get, any-found, any-of, keep-in}
 use Rattle.blif.specs.Lines.{lines}
 use Rattle.blif.specs.Words.{Word, linesOf}
 use Rattle.blif.specs.Subset.{first, last}
@@ -52,12 +53,8 @@ pairs-right R P f [] (y ∷ ys) h = absurd h
 pairs-right R P f (x ∷ xs) [] h = absurd h
 pairs-right R P f (x ∷ xs) (y ∷ ys) h = (f x y (h .0), pairs-right R P f xs ys (h .1))
 
-all-stand : (ds : List Definition) (i : ℕ) → i < length ds → (ws : List Word) → All (Earlier ds i) ws → All (λ w. StandsFor ds i w (idOf (namesOf ds) w)) ws
-all-stand ds i l [] h = tt
-all-stand ds i l (w ∷ ws) h = (stands ds i l w (h .0), all-stand ds i l ws (h .1))
-
 operands-stand : (ds : List Definition) → Ordered ds → (i : ℕ) → i < length ds → Pairs (StandsFor ds i) (getD ds i noDefinition .reads) (map (idOf (namesOf ds)) (getD ds i noDefinition .reads))
-operands-stand ds h i l = pairs-map (StandsFor ds i) (idOf (namesOf ds)) (getD ds i noDefinition .reads) (all-stand ds i l (getD ds i noDefinition .reads) (h .reads i l))
+operands-stand ds h i l = pairs-map (StandsFor ds i) (idOf (namesOf ds)) (getD ds i noDefinition .reads) (All-map (stands ds i l) (getD ds i noDefinition .reads) (h .reads i l))
 
 -- "outputs marked"
 mark-sound : (os : List OutputName) (w : Word) → isOutput os w ≡ true → IsOutput os w
@@ -67,11 +64,6 @@ mark-complete : (os : List OutputName) (w : Word) → IsOutput os w → isOutput
 mark-complete os w h = any-of (λ (o : OutputName). equal w (o .name)) (h .standing) (equal-of w (h .output .name) (h .named))
 
 -- the test of the caller's numbers
-within : (r : Range) (x : ℕ) → passes (among r) x ≡ true → Within r x
-within r x e =
-    let a = and-true (leb (r .low) x) (leb x (r .high)) e in
-    record { least = leb-true (r .low) x (a .0); most = leb-true x (r .high) (a .1) }
-
 passes-of : (r : Range) (x : ℕ) → Within r x → passes (among r) x ≡ true
 passes-of r x h = rw (le-leb (r .low) x (h .least), le-leb x (r .high) (h .most)) refl
 
@@ -86,9 +78,9 @@ callable-true c e =
     let two = and-true (k && t) h (three .0) in
     let one = and-true k t (two .0) in
     record {
-      leaves = within leavesRange (c .leaves) (one .0);
-      top = within topRange (c .top) (one .1);
-      horizon = within horizonRange (c .horizon) (two .1);
+      leaves = in-range leavesRange (c .leaves) (one .0);
+      top = in-range topRange (c .top) (one .1);
+      horizon = in-range horizonRange (c .horizon) (two .1);
       table = leb-true 1 (c .table) (three .1);
       level = leb-true 1 (c .level) (four .1);
       delay = leb-true (delay c) (c .top) (five .1);
@@ -183,8 +175,8 @@ imported-well text c S e =
     subst WellFormed (i .sheet) (well-sheet c (i .callable) (i .model) (model-follows text (i .model) (i .modelled) .sound))
 
 -- a name put out that is not missing is defined
-answer : (M : Model) → undefined M ≡ [] → (o : OutputName) → List·Memᴰ o (M .outputs) → has (namesOf (M .definitions)) (o .name) ≡ true
-answer M e o m = go (has (namesOf (M .definitions)) (o .name)) refl
+output-defined : (M : Model) → undefined M ≡ [] → (o : OutputName) → List·Memᴰ o (M .outputs) → has (namesOf (M .definitions)) (o .name) ≡ true
+output-defined M e o m = go (has (namesOf (M .definitions)) (o .name)) refl
   where
     go : (b : Bool) → has (namesOf (M .definitions)) (o .name) ≡ b → b ≡ true
     go true q = refl
@@ -223,7 +215,7 @@ sheet-of-text text c h s m =
           rw (node-at (nodeOf (delay c) M) (M .definitions) i k) (defined-node (delay c) M s i k);
       differences = refl;
       answered = λ o k.
-          let p = has-place (namesOf (M .definitions)) (o .name) (answer M m o k) in
+          let p = has-place (namesOf (M .definitions)) (o .name) (output-defined M m o k) in
           let n : length (namesOf (M .definitions)) ≡ length (M .definitions) = length-map (M .definitions) (λ d. d .name) in
           (p .0, omega (arith, p .1, n, nodes-count c M), sym (name-at (M .definitions) (p .0)) ∙ p .2);
       once = λ i j li lj q.

@@ -1,5 +1,5 @@
 -- Names and words by position: what stands from a position on, for whoever walks a line from word to word.
-use Prim.Native.Nat.{ℕ, suc, _+_, _-_, _≤_, _<_}
+use Prim.Native.Nat.{ℕ, suc, _+_, _-_, _*_, _≤_, _<_}
 use mathlib.Core.Path.{_≡_, refl, sym, ap, _∙_}
 use mathlib.Core.Bool.{Bool, true, false, cond}
 use mathlib.Core.List.{List, [], _∷_}
@@ -12,13 +12,13 @@ use borrow.Author.Tests.{ltb-true, ltb-false}
 use Rattle.blif.proofs.Ordering.{clash}
 use Rattle.maps.specs.Number.{byteAt}
 use Rattle.blif.specs.Lines.{newline, onto, lines}
-use Rattle.blif.specs.Words.{Word, blank, ending, words}
-use Rattle.blif.specs.Scan.{joinsHere, until, from, endsLine, endsWord, endsBlanks, atLineEnd, pastLine, nameAt, wordsAt, joinAt}
+use Rattle.blif.specs.Words.{Word, blank, words}
+use Rattle.blif.specs.Scan.{joinsHere, until, from, endsLine, endsWord, endsBlanks, atLineEnd, nameAt, wordsAt, joinAt}
 use Rattle.blif.proofs.Positions.{until-at, until-end}
-use Rattle.blif.proofs.Wording.{Stopped, nothing, here, from-stops, next-word, next-word-past}
+use Rattle.blif.proofs.Wording.{next-word}
 
 -- the name and the words at a position, by the rest of the text from there
-pub name-rest : (s : List ℕ) (at : ℕ) → nameAt s at ≡ until endsWord (drop at s)
+name-rest : (s : List ℕ) (at : ℕ) → nameAt s at ≡ until endsWord (drop at s)
 unfolding until
 name-rest s at = refl
 
@@ -61,19 +61,6 @@ inside s at h = go (ltb at (length s)) refl
     go true e = ltb-true at (length s) e
     go false e = clash (atLineEnd (drop at s)) (ap atLineEnd (drop-of-length-le s (ltb-false at (length s) e))) h
 
--- a rest that begins where it stops is found again
-pub from-again : (stop : ℕ → Bool) (t : List ℕ) → Stopped stop t → from stop t ≡ t
-unfolding from
-from-again stop [] nothing = refl
-from-again stop (b ∷ []) (here e j) = rw (j, e) refl
-from-again stop (b ∷ c ∷ t) (here e j) = rw (j, e) refl
-
--- the line ends where it did, after its blanks and after its next word
-past-blanks : (t : List ℕ) → pastLine (from endsBlanks t) ≡ pastLine t
-past-blanks t =
-    sym (next-word-past (from endsBlanks t)) ∙ ap (λ u. pastLine (from endsWord u)) (from-again endsBlanks (from endsBlanks t) (from-stops endsBlanks t))
-    ∙ next-word-past t
-
 -- the first word from a position on begins after the blanks there
 pub first-word : (s : List ℕ) (at first : ℕ) → drop first s ≡ from endsBlanks (drop at s) → 0 < length (wordsAt s at)
     → (nameAt s first ≡ getD (wordsAt s at) 0 []) × (first < length s)
@@ -99,11 +86,7 @@ words-after s start at first rest i e l f g =
     let t : wordsAt s at ≡ nameAt s first ∷ wordsAt s rest = words-more s at first rest f (omega (arith, ap length d)) g in
     ap (λ (ws : List Word). drop 1 ws) (sym t ∙ d) ∙ ap (λ (k : ℕ). drop k (wordsAt s start)) (sym (add-one i))
 
-pub line-past : (s : List ℕ) (at first rest : ℕ) → drop first s ≡ from endsBlanks (drop at s) → drop rest s ≡ from endsWord (drop first s) → (pastLine (drop rest s) ≡ pastLine (drop at s)) × (pastLine (drop first s) ≡ pastLine (drop at s))
-line-past s at first rest e f =
-    (ap pastLine (f ∙ ap (from endsWord) e) ∙ next-word-past (drop at s), ap pastLine e ∙ past-blanks (drop at s))
-
--- no more bytes before a stop than bytes, no more words and no more lines
+-- no more bytes before a stop than bytes
 until-most : (stop : ℕ → Bool) (t : List ℕ) → length (until stop t) ≤ length t
 unfolding until
 until-most stop [] = omega arith
@@ -120,31 +103,46 @@ until-most stop (b ∷ c ∷ t) = go (joinsHere b (c ∷ t)) (stop b) (until-mos
     go false true r q = omega arith
     go false false r q = omega (arith, q)
 
-onto-most : (b : ℕ) (ws : List Word) → length (onto b ws) ≤ suc (length ws)
-onto-most b [] = omega arith
-onto-most b (w ∷ ws) = omega arith
-
-words-most : (t : List ℕ) → length (words t) ≤ length t
+-- between two words there is a byte
+words-most : (t : List ℕ) → 2 * length (words t) ≤ length t + 1
 unfolding words
 words-most [] = omega arith
-words-most (b ∷ t) = go (blank b) (ending t) (words-most t)
+words-most (b ∷ []) = go (blank b)
   where
-    go : (x y : Bool) → length (words t) ≤ length t → length (cond x (words t) (cond y ((b ∷ []) ∷ words t) (onto b (words t)))) ≤ suc (length t)
-    go true y r = omega (arith, r)
-    go false true r = omega (arith, r)
-    go false false r = omega (arith, r, onto-most b (words t))
+    go : (x : Bool) → 2 * length (cond x [] ((b ∷ []) ∷ [])) ≤ 2
+    go true = omega arith
+    go false = omega arith
+words-most (b ∷ c ∷ t) = go (blank b) (blank c) refl (words-most t) (words-most (c ∷ t))
+  where
+    onto-few : (ws : List Word) → 2 * length ws ≤ length t + 2 → 2 * length (onto b ws) ≤ length t + 2
+    onto-few [] h = omega arith
+    onto-few (w ∷ ws) h = h
 
+    after-blank : blank c ≡ true → words (c ∷ t) ≡ words t
+    after-blank e = rw e refl
+
+    go : (x y : Bool) → blank c ≡ y → 2 * length (words t) ≤ length t + 1 → 2 * length (words (c ∷ t)) ≤ length (c ∷ t) + 1
+        → 2 * length (cond x (words (c ∷ t)) (cond y ((b ∷ []) ∷ words (c ∷ t)) (onto b (words (c ∷ t))))) ≤ length (b ∷ c ∷ t) + 1
+    go true y e h k = omega arith
+    go false true e h k = omega (arith, h, ap (length {A = Word}) (after-blank e))
+    go false false e h k = omega (arith, onto-few (words (c ∷ t)) (omega (arith, k)))
+
+-- each line has a byte
 pub lines-most : (t : List ℕ) → length (lines t) ≤ length t
 unfolding lines
 lines-most [] = omega arith
 lines-most (b ∷ t) = go (eqb b newline) (lines-most t)
   where
+    onto-most : (ls : List (List ℕ)) → length (onto b ls) ≤ suc (length ls)
+    onto-most [] = omega arith
+    onto-most (l ∷ ls) = omega arith
+
     go : (x : Bool) → length (lines t) ≤ length t → length (cond x ([] ∷ lines t) (onto b (lines t))) ≤ suc (length t)
     go true r = omega (arith, r)
-    go false r = omega (arith, r, onto-most b (lines t))
+    go false r = omega (arith, r, onto-most (lines t))
 
 pub name-length-most : (s : List ℕ) (at : ℕ) → length (nameAt s at) ≤ length s - at
 name-length-most s at = rw (name-rest s at) (omega (arith, until-most endsWord (drop at s), length-drop at s))
 
-pub words-count-most : (s : List ℕ) (at : ℕ) → length (wordsAt s at) ≤ length s - at
+pub words-count-most : (s : List ℕ) (at : ℕ) → 2 * length (wordsAt s at) ≤ length s - at + 1
 words-count-most s at = rw (words-rest s at) (omega (arith, words-most (until endsLine (drop at s)), until-most endsLine (drop at s), length-drop at s))

@@ -1,29 +1,32 @@
 -- A model is kept: none at first, and one definition more.
-use Prim.Native.Nat.{ℕ, zero, suc, _+_, _*_, _≤_, _<_}
+use Prim.Native.Nat.{ℕ, zero, suc, _+_, _≤_, _<_}
 use mathlib.Core.Path.{_≡_, refl, sym, subst, ap, _∙_}
-use mathlib.Core.Bool.{Bool, true, false, cond, _&&_, _||_, not}
+use mathlib.Core.Bool.{Bool, true, false, cond, _||_, not}
 use mathlib.Core.List.{List, [], _∷_, _++_, map, map-append, append-nil, append-assoc}
 use native.Mathlib.Omega.{arith}
 use native.Mathlib.Nat.{not-suc-le-zero}
-use native.Mathlib.Numerals.{add-one}
 use lib.ListN.{length, getD, take, length-map}
-use lib.Seq.{length-take-le, take-suc, take-take, getD-take}
+use borrow.Author.Tests.{not-true}
+use lib.Seq.{length-take-le, take-take, getD-take}
 use Rattle.maps.specs.Lists.{all, equal}
 use Rattle.maps.specs.Sheet.{input}
-use Rattle.maps.specs.Limits.{sizeRange, operandsMost}
+use Rattle.maps.specs.Limits.{operandsMost}
 use Rattle.maps.proofs.Over.{and-true}
 use Rattle.blif.specs.Words.{Word}
 use Rattle.blif.specs.Names.{Definition, definition, inputsOf, namesOf, readsOf, has, fresh}
 use Rattle.blif.specs.Import.{idOf}
 use Rattle.records.specs.Rows.{nodePlace, rowNumbers}
+use Rattle.blif.proofs.Ordering.{all-append}
+use Rattle.blif.proofs.Positions.{take-next}
 use Rattle.names.specs.Table.{namesIn, Listed}
 use Rattle.names.proofs.Tables.{length-names}
+use Rattle.subset.proofs.PartsLaws.{inputs-names}
 use Rattle.definitions.specs.Rows.{rowMeant, rowsFrom, rowOf, idsOf}
 use Rattle.definitions.specs.Kept.{Kept, Added}
-use Rattle.definitions.proofs.RowLaws.{names-append, reads-append, rows-append, ids-grow, has-append, all-grows, all-append}
+use Rattle.definitions.proofs.RowLaws.{names-append, reads-append, rows-append, ids-grow, has-append, all-grows}
 
 -- how many operands there are
-pub kept-reads : {names nodes operands : List ℕ} {d n u : ℕ} {ds : List Definition} → Kept d ds names nodes operands n u → u ≡ length (readsOf ds)
+kept-reads : {names nodes operands : List ℕ} {d n u : ℕ} {ds : List Definition} → Kept d ds names nodes operands n u → u ≡ length (readsOf ds)
 kept-reads {names} {nodes} {operands} {d} {n} {u} {ds} k =
     let l : u ≤ length operands = omega (arith, k .few, k .long, k .listed .few) in
     omega (arith, length-take-le u operands l, ap length (k .ids), length-map (readsOf ds) (idOf (namesOf ds)))
@@ -85,7 +88,7 @@ one-id first ns ws w i l q e f =
     e ∙ ap (λ (us : List ℕ). us ++ (idOf ns w ∷ [])) f ∙ append-assoc first (map (idOf ns) (take i ws)) (idOf ns w ∷ [])
     ∙ ap (λ (us : List ℕ). first ++ us)
     (ap (λ (v : Word). map (idOf ns) (take i ws) ++ (idOf ns v ∷ [])) q ∙ sym (map-append (idOf ns) (take i ws) (getD ws i [] ∷ []))
-    ∙ ap (map (idOf ns)) (sym (take-suc ws i [] l) ∙ ap (λ (k : ℕ). take k ws) (sym (add-one i))))
+    ∙ ap (map (idOf ns)) (sym (take-next ws i [] l)))
 
 -- an id is at most the count of the names
 pub id-small : (ns : List Word) (w : Word) → idOf ns w ≤ length ns
@@ -105,23 +108,15 @@ added x next e l m r i w o =
     record { listed = l; named = m; rows = rw (sym e) r; ids = rw (sym e) i; wide = w; long = o }
 
 -- inputs that are kept one after the other
-pub names-inputs : (ds : List Definition) (ws : List Word) → namesOf (ds ++ inputsOf ws) ≡ namesOf ds ++ ws
-names-inputs ds ws = names-append ds (inputsOf ws) ∙ ap (λ (ns : List Word). namesOf ds ++ ns) (go ws)
-  where
-    go : (ws : List Word) → namesOf (inputsOf ws) ≡ ws
-    go [] = refl
-    go (w ∷ ws) = ap (λ (ns : List Word). w ∷ ns) (go ws)
+names-inputs : (ds : List Definition) (ws : List Word) → namesOf (ds ++ inputsOf ws) ≡ namesOf ds ++ ws
+names-inputs ds ws = names-append ds (inputsOf ws) ∙ ap (λ (ns : List Word). namesOf ds ++ ns) (inputs-names ws)
 
 -- of new names each is none of the old ones and none of those before it
-pub fresh-at : (old new : List Word) (i : ℕ) → fresh old new ≡ true → i < length new → has (old ++ take i new) (getD new i []) ≡ false
+fresh-at : (old new : List Word) (i : ℕ) → fresh old new ≡ true → i < length new → has (old ++ take i new) (getD new i []) ≡ false
 fresh-at old [] i f l = absurd (not-suc-le-zero l)
 fresh-at old (n ∷ new) zero f l =
     let a = and-true (not (has old n)) (fresh (n ∷ old) new) f in
-    ap (λ (ns : List Word). has ns n) (append-nil old) ∙ go (has old n) (a .0)
-  where
-    go : (b : Bool) → not b ≡ true → b ≡ false
-    go true e = sym e
-    go false e = refl
+    ap (λ (ns : List Word). has ns n) (append-nil old) ∙ not-true (has old n) (a .0)
 fresh-at old (n ∷ new) (suc i) f l =
     let a = and-true (not (has old n)) (fresh (n ∷ old) new) f in
     let w = getD new i [] in
@@ -149,4 +144,4 @@ module _ (ds : List Definition) (n : ℕ) (ws : List Word) (i k : ℕ) (l : i < 
       more =
           append-assoc ds (inputsOf (take i ws)) (definition (getD ws i []) input [] ∷ [])
           ∙ ap (λ (xs : List Definition). ds ++ xs)
-          (sym (map-append (λ (w : Word). definition w input []) (take i ws) (getD ws i [] ∷ [])) ∙ ap inputsOf (sym (take-suc ws i [] (omega (arith, l, m))) ∙ ap (λ (j : ℕ). take j ws) (sym (add-one i))))
+          (sym (map-append (λ (w : Word). definition w input []) (take i ws) (getD ws i [] ∷ [])) ∙ ap inputsOf (sym (take-next ws i [] (omega (arith, l, m)))))

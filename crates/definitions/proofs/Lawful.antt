@@ -1,24 +1,25 @@
 -- What a line without fault defines: names that are new, which read names that are defined.
-use Prim.Native.Nat.{ℕ, zero, suc, _+_, _-_, _≤_, _<_}
+use Prim.Native.Nat.{ℕ, zero, suc, _+_, _≤_, _<_}
 use mathlib.Core.Path.{_≡_, refl, sym, ap, _∙_}
 use mathlib.Core.Bool.{Bool, true, false, _&&_, not}
-use mathlib.Core.List.{List, [], _∷_, _++_, append-nil}
+use mathlib.Core.List.{List, [], _∷_, append-nil}
 use native.Mathlib.Omega.{arith}
 use native.Mathlib.Nat.{not-suc-le-zero}
 use lib.Dec.{leb}
 use lib.ListN.{length, getD, take, length-map}
 use lib.Seq.{take-length}
-use borrow.Author.Tests.{leb-true}
+use borrow.Author.Tests.{leb-true, not-true}
 use Rattle.maps.specs.Lists.{all}
-use Rattle.maps.specs.Sheet.{Kind, input, logic, box}
+use Rattle.maps.specs.Sheet.{input, logic, box}
 use Rattle.maps.specs.Limits.{sizeRange, operandsMost}
 use Rattle.maps.proofs.Over.{and-true}
 use Rattle.blif.specs.Words.{Word}
 use Rattle.blif.specs.Subset.{Statement, model, inputs, outputs, names, row, latch, end, outside, initOf, lastOf, namesLine}
-use Rattle.blif.specs.Names.{Definition, definition, kindOf, inputsOf, defined, namesOf, readsOf, has, fresh, resolves}
-use Rattle.blif.specs.Limits.{nameMost, named, fewOperands, someNodes, withinLimits}
+use Rattle.blif.specs.Names.{Definition, definition, kindOf, defined, namesOf, readsOf, has, fresh}
+use Rattle.blif.specs.Limits.{nameMost, named, fewOperands, someNodes}
+use Rattle.blif.proofs.Ordering.{all-append}
+use Rattle.subset.proofs.PartsLaws.{init-take, init-length, inputs-names}
 use Rattle.definitions.specs.Kept.{Lawful}
-use Rattle.definitions.proofs.RowLaws.{all-append}
 
 -- names of at most 31 bytes
 abbrev short : List Word → Bool
@@ -28,11 +29,6 @@ pub short-at : (ws : List Word) (i : ℕ) → all (λ (w : Word). leb (length w)
 short-at [] i h l = absurd (not-suc-le-zero l)
 short-at (w ∷ ws) zero h l = leb-true (length w) nameMost (and-true (leb (length w) nameMost) (short ws) h .0)
 short-at (w ∷ ws) (suc i) h l = short-at ws i (and-true (leb (length w) nameMost) (short ws) h .1) (omega arith)
-
--- a line of inputs: its names are all of its words
-inputs-names : (ws : List Word) → namesOf (inputsOf ws) ≡ ws
-inputs-names [] = refl
-inputs-names (w ∷ ws) = ap (λ (ns : List Word). w ∷ ns) (inputs-names ws)
 
 -- the names that a line defines are names on it
 defined-short : (s : Statement) → short (named s) ≡ true → short (namesOf (defined s)) ≡ true
@@ -46,14 +42,14 @@ defined-short end h = refl
 defined-short outside h = refl
 
 -- the parts of what is lawful
-pub record Parts (ds : List Definition) (s : Statement) : Type 0 where
+pub record LawfulParts (ds : List Definition) (s : Statement) : Type 0 where
   pub reads : all (has (namesOf ds)) (readsOf (defined s)) ≡ true
   pub new : fresh (namesOf ds) (namesOf (defined s)) ≡ true
   pub short : all (λ (w : Word). leb (length w) nameMost) (namesOf (defined s)) ≡ true
   pub few : fewOperands s ≡ true
   pub room : length ds + length (defined s) ≤ sizeRange .high
 
-pub lawful-parts : (ds : List Definition) (s : Statement) → Lawful ds s → Parts ds s
+pub lawful-parts : (ds : List Definition) (s : Statement) → Lawful ds s → LawfulParts ds s
 lawful-parts ds s h =
     let r = and-true (all (has (namesOf ds)) (readsOf (defined s))) (fresh (namesOf ds) (namesOf (defined s))) (h .resolved) in
     let three = and-true (short (named s) && fewOperands s && leb (length ds + length (defined s)) (sizeRange .high)) (someNodes (length ds) s) (h .limited) in
@@ -68,31 +64,23 @@ lawful-parts ds s h =
     }
 
 -- a line that defines one node
-pub record One (ds : List Definition) (x : Definition) : Type 0 where
+pub record LawfulNode (ds : List Definition) (x : Definition) : Type 0 where
   pub reads : all (has (namesOf ds)) (x .reads) ≡ true
   pub new : has (namesOf ds) (x .name) ≡ false
   pub short : length (x .name) ≤ nameMost
   pub room : length ds < sizeRange .high
 
-pub lawful-one : (ds : List Definition) (s : Statement) (x : Definition) → defined s ≡ x ∷ [] → Lawful ds s → One ds x
+pub lawful-one : (ds : List Definition) (s : Statement) (x : Definition) → defined s ≡ x ∷ [] → Lawful ds s → LawfulNode ds x
 lawful-one ds s x e h =
     let p = lawful-parts ds s h in
     record {
       reads = ap (all (has (namesOf ds))) (sym (append-nil (x .reads)) ∙ ap readsOf (sym e)) ∙ p .reads;
-      new = go (has (namesOf ds) (x .name)) (ap (λ (xs : List Definition). fresh (namesOf ds) (namesOf xs)) (sym e) ∙ p .new);
+      new = not-true (has (namesOf ds) (x .name)) (and-true (not (has (namesOf ds) (x .name))) true (ap (λ (xs : List Definition). fresh (namesOf ds) (namesOf xs)) (sym e) ∙ p .new) .0);
       short = short-at (x .name ∷ []) 0 (ap (λ (xs : List Definition). short (namesOf xs)) (sym e) ∙ p .short) (omega arith);
       room = omega (arith, p .room, ap length e);
     }
-  where
-    go : (b : Bool) → (not b && true) ≡ true → b ≡ false
-    go true q = sym q
-    go false q = refl
 
 -- the one node of a `.names`, and of a `.latch`
-init-take : (w : Word) (ws : List Word) → initOf w ws ≡ take (length ws) (w ∷ ws)
-init-take w [] = refl
-init-take w (x ∷ ws) = ap (λ (us : List Word). w ∷ us) (init-take x ws)
-
 last-at : (w : Word) (ws : List Word) → lastOf w ws ≡ getD (w ∷ ws) (length ws) []
 last-at w [] = refl
 last-at w (x ∷ ws) = last-at x ws
@@ -110,11 +98,7 @@ latch-defined (w ∷ ws) l = refl
 -- how many it reads
 pub names-few : (ws : List Word) (n : ℕ) → length ws ≡ suc n → fewOperands (namesLine ws) ≡ true → n ≤ operandsMost
 names-few [] n l f = absurd (omega arith)
-names-few (w ∷ ws) n l f = omega (arith, leb-true (length (initOf w ws)) operandsMost f, size w ws)
-  where
-    size : (w : Word) (ws : List Word) → length (initOf w ws) ≡ length ws
-    size w [] = refl
-    size w (x ∷ ws) = omega (arith, size x ws)
+names-few (w ∷ ws) n l f = omega (arith, l, leb-true (length (initOf w ws)) operandsMost f, init-length w ws)
 
 -- the kind of a `.names`
 pub kind-none : (us : List Word) → length us ≡ 0 → input ≡ kindOf us

@@ -1,18 +1,19 @@
 -- Rows, names and reads of definitions one after the other; the ids of names when more are defined; names that come once.
 use Prim.Native.Nat.{ℕ, suc, _+_, _*_, _<_}
 use mathlib.Core.Path.{_≡_, refl, sym, ap, _∙_}
-use mathlib.Core.Bool.{Bool, true, false, cond, _&&_, _||_, not, and-assoc, or-assoc}
+use mathlib.Core.Bool.{Bool, true, false, cond, _||_, or-assoc}
 use mathlib.Core.List.{List, [], _∷_, _++_, map, append-assoc, map-append}
 use native.Mathlib.Omega.{arith}
 use lib.ListN.{length, length-append}
+use borrow.Author.Tests.{ltb-true}
 use Rattle.maps.specs.Lists.{all, equal}
 use Rattle.maps.specs.Sheet.{isLogic, latencyOf}
 use Rattle.maps.specs.WellFormed.{codeOf}
 use Rattle.maps.proofs.Over.{and-true}
 use Rattle.blif.specs.Words.{Word}
-use Rattle.blif.specs.Names.{Definition, namesOf, readsOf, has, fresh}
+use Rattle.blif.specs.Names.{Definition, namesOf, readsOf, has}
 use Rattle.blif.specs.Import.{idOf}
-use Rattle.blif.proofs.Naming.{has-place, id-first}
+use Rattle.names.proofs.Ids.{has-id}
 use Rattle.definitions.specs.Rows.{rowsFrom}
 
 pub names-append : (xs ys : List Definition) → namesOf (xs ++ ys) ≡ namesOf xs ++ namesOf ys
@@ -37,7 +38,7 @@ module _ (d : ℕ) (m : Word → Bool) where
   rows-length e (x ∷ xs) = omega (arith, rows-length (e + length (x .reads)) xs)
 
 -- a name that is there keeps its id when more names follow
-pub id-grows : (ns ms : List Word) (w : Word) → has ns w ≡ true → idOf (ns ++ ms) w ≡ idOf ns w
+id-grows : (ns ms : List Word) (w : Word) → has ns w ≡ true → idOf (ns ++ ms) w ≡ idOf ns w
 id-grows [] ms w h = let z : _≡_ {A = ℕ} 0 1 = cc in absurd (omega arith)
 id-grows (n ∷ ns) ms w h = go (equal w n) h (id-grows ns ms w)
   where
@@ -53,7 +54,7 @@ ids-grow ns ms (w ∷ ws) h =
 
 -- and is below the count of the names
 pub id-below : (ns : List Word) (w : Word) → has ns w ≡ true → idOf ns w < length ns
-id-below ns w h = let p = has-place ns w h in omega (arith, p .1, id-first ns w (p .0) (p .1) (p .2) .0)
+id-below ns w h = ltb-true (idOf ns w) (length ns) (sym (has-id ns w) ∙ h)
 
 pub has-append : (ns ms : List Word) (w : Word) → has (ns ++ ms) w ≡ (has ns w || has ms w)
 has-append [] ms w = refl
@@ -64,8 +65,3 @@ all-grows ns ms [] h = refl
 all-grows ns ms (w ∷ ws) h =
     let a = and-true (has ns w) (all (has ns) ws) h in
     rw (has-append ns ms w, a .0, all-grows ns ms ws (a .1)) refl
-
--- a test of two lists after each other
-pub all-append : {A : Type 0} (p : A → Bool) (xs ys : List A) → all p (xs ++ ys) ≡ (all p xs && all p ys)
-all-append p [] ys = refl
-all-append p (x ∷ xs) ys = ap (λ (b : Bool). p x && b) (all-append p xs ys) ∙ sym (and-assoc (p x) (all p xs) (all p ys))

@@ -1,29 +1,18 @@
 -- Two names compared byte by byte: what is left of them has the order of the names.
-use Prim.Native.Nat.{ℕ, zero, suc, _-_, _≤_, _<_}
+use Prim.Native.Nat.{ℕ, _-_, _≤_, _<_}
 use mathlib.Core.Path.{_≡_, refl, sym, ap, _∙_}
-use mathlib.Core.List.{List, [], _∷_}
+use mathlib.Core.List.{List}
 use native.Mathlib.Omega.{arith}
 use borrow.Author.Tests.{lt-ltb, le-ltb}
 use Rattle.maps.specs.Number.{byteAt}
-use Rattle.blif.specs.Scan.{until, nameAt}
+use Rattle.blif.specs.Scan.{nameAt}
 use Rattle.scan.specs.Steps.{left, Next}
+use Rattle.scan.proofs.NameBytes.{left-none, left-some}
 use Rattle.distinct.specs.declared.Order.the-variants as Is
 use Rattle.distinct.specs.Sorting.{order}
 
-left-next : (s : List ℕ) (at next : ℕ) → Next s at next → nameAt s at ≡ left s next
-unfolding until
-left-next s at next n = n .name
-
-left-none : (s : List ℕ) (p : ℕ) → p ≡ 0 → left s p ≡ []
-left-none s p e = ap (left s) e
-
-left-some : (s : List ℕ) (p : ℕ) → (p ≡ 0 → ⊥) → left s p ≡ byteAt s (p - 1) ∷ nameAt s p
-unfolding until
-left-some s zero h = absurd (h refl)
-left-some s (suc k) h = let e : k ≡ suc k - 1 = omega arith in ap (λ n. byteAt s n ∷ nameAt s (suc k)) e
-
 pub order-left : (s : List ℕ) (a b p q : ℕ) → Next s a p → Next s b q → order (left s p) (left s q) ≡ order (nameAt s a) (nameAt s b)
-order-left s a b p q m n = sym (ap (λ w. order w (nameAt s b)) (left-next s a p m) ∙ ap (order (left s p)) (left-next s b q n))
+order-left s a b p q m n = sym (ap (λ w. order w (nameAt s b)) (m .name) ∙ ap (order (left s p)) (n .name))
 
 module _ (s : List ℕ) (p q : ℕ) where
   pub both-ended : p ≡ 0 → q ≡ 0 → Is.Equal ≡ order (left s p) (left s q)

@@ -1,19 +1,14 @@
 -- Lists read and written from place to place.
-use Prim.Native.Nat.{ℕ, suc, _+_, _-_, _≤_, _<_}
+use Prim.Native.Nat.{ℕ, _+_, _-_, _≤_, _<_}
 use mathlib.Core.Path.{_≡_, ap, _∙_}
 use mathlib.Core.List.{List, [], _∷_, _++_}
 use native.Mathlib.Omega.{arith}
-use lib.ListN.{length, getD, take, drop, set, length-drop}
-use lib.Seq.{length-take-le, take-all, take-suc, take-suc-set}
-
-one-more : (i : ℕ) → i + 1 ≡ suc i
-one-more i = omega arith
+use native.Mathlib.Numerals.{add-one}
+use lib.ListN.{length, take, drop, set, length-drop}
+use lib.Seq.{length-take-le, take-all, take-suc-set}
 
 pub take-write : (l : List ℕ) (i a : ℕ) → i < length l → take (i + 1) (set l i a) ≡ take i l ++ (a ∷ [])
-take-write l i a h = ap (λ n. take n (set l i a)) (one-more i) ∙ take-suc-set l i a h
-
-pub take-next : (l : List ℕ) (i : ℕ) → i < length l → take (i + 1) l ≡ take i l ++ (getD l i 0 ∷ [])
-take-next l i h = ap (λ n. take n l) (one-more i) ∙ take-suc l i 0 h
+take-write l i a h = ap (λ n. take n (set l i a)) (add-one i) ∙ take-suc-set l i a h
 
 -- a list parted at h, as the code parts it
 pub rest-all : (l : List ℕ) (h : ℕ) → take (length l - h) (drop h l) ≡ drop h l

@@ -1,7 +1,7 @@
 -- The order of words is irreflexive, transitive and total.
 use Prim.Native.Nat.{ℕ, _<_}
 use mathlib.Core.Path.{_≡_, refl}
-use mathlib.Core.Bool.{Bool, true, false, cond, _&&_}
+use mathlib.Core.Bool.{Bool, true, false, cond, and-false}
 use mathlib.Core.List.{[], _∷_}
 use mathlib.Core.Logic.{_⊎_, inl, inr}
 use native.Mathlib.Omega.{arith}
@@ -74,10 +74,6 @@ precedes-other [] (y ∷ ys) p = refl
 precedes-other (x ∷ xs) [] p = refl
 precedes-other (x ∷ xs) (y ∷ ys) p = go (first-byte x y xs ys p) (precedes-other xs ys)
   where
-    and-right : (s : Bool) → (s && false) ≡ false
-    and-right true = refl
-    and-right false = refl
-
     go : (x < y) ⊎ ((x ≡ y) × Precedes xs ys) → (Precedes xs ys → equal xs ys ≡ false) → equal (x ∷ xs) (y ∷ ys) ≡ false
     go (inl l) rec = rw (ne-eqb x y (λ e. absurd (omega (arith, e)))) refl
-    go (inr l) rec = rw (rec (l .1)) (and-right (eqb x y))
+    go (inr l) rec = rw (rec (l .1)) (and-false (eqb x y))

@@ -10,7 +10,12 @@ ghost use Rattle.distinct.specs.Sorting.{order, names, Ascending, Sorted
 ghost use Rattle.distinct.specs.Pieces.{Stands};
 use scan::after_blanks;
 use scan::after_word;
+use scan::ends_line;
+use scan::joins;
 use scan::name_next;
+
+// The byte that begins a comment.
+const COMMENT: u8 = 35;
 
 pub enum Order {
     Less,
@@ -156,12 +161,12 @@ fn collect(text: &[u8], start: usize, words: &mut [u16])
     requires { ⌜ length (now words) ≡ length (wordsAt (now text) start) ⌝ }
     ensures { λ _. ⌜ names (now (text .entry)) (now (words .exit)) ≡ wordsAt (now (text .entry)) start ⌝ }
 {
-    let mut at = after_blanks(text, start);
+    let mut at = start;
     let mut i: usize = 0;
     while i < words.len() {
-        words[i] = at as u16;
-        let end = after_word(text, at + 1);
-        at = after_blanks(text, end);
+        let first = after_blanks(text, at);
+        words[i] = first as u16;
+        at = after_word(text, first);
         i += 1;
     }
 }
@@ -215,22 +220,12 @@ fn piece_at(text: &[u8], at: usize) -> Piece
     if text.len() <= at {
         return Piece::End;
     }
+    if joins(text, at) {
+        return Piece::Join;
+    }
     let b = text[at];
-    if b == 10 {
+    if ends_line(b) {
         return Piece::End;
-    }
-    if b == 35 {
-        return Piece::End;
-    }
-    if b != 92 {
-        return Piece::Byte(b);
-    }
-    let next = at + 1;
-    if text.len() <= next {
-        return Piece::Join;
-    }
-    if text[next] == 10 {
-        return Piece::Join;
     }
     Piece::Byte(b)
 }
@@ -247,7 +242,7 @@ fn unjoin(text: &[u8], start: usize, line: &mut [u8]) -> bool
         let here = piece_at(text, at);
         match here {
             Piece::End => {
-                line[n] = 35;
+                line[n] = COMMENT;
                 return true;
             }
             Piece::Join => {

@@ -1,31 +1,41 @@
 -- How many elements of a list pass a test, and whether all or none do.
-use Prim.Native.Nat.{ℕ, zero, suc, _≤_, _<_}
-use mathlib.Core.Path.{_≡_, refl}
-use mathlib.Core.Bool.{Bool, true, false, cond, _&&_, not}
+use Prim.Native.Nat.{ℕ, zero, suc, _+_, _≤_, _<_}
+use mathlib.Core.Path.{_≡_, refl, ap, _∙_}
+use mathlib.Core.Bool.{Bool, true, false, cond, _&&_, not, and-false}
 use mathlib.Core.List.{List, [], _∷_}
 use native.Mathlib.Omega.{arith}
-use lib.ListN.{length, getD, take}
+use native.Mathlib.Nat.{not-suc-le-zero}
+use lib.ListN.{length, getD, take, length-append}
 use Rattle.maps.specs.Lists.{all, keep}
+use Rattle.maps.proofs.Member.{keep-append}
+use Rattle.blif.proofs.Ordering.{all-append}
+use Rattle.blif.proofs.Positions.{take-next}
 
 module _ {A : Type 0} (p : A → Bool) where
-  -- a list by its first element
-  module _ (x : A) (xs rest : List A) (e : xs ≡ x ∷ rest) where
-    pub kept-more : p x ≡ true → length (keep p xs) ≡ suc (length (keep p rest))
-    kept-more h = rw (e, h) refl
+  -- the first n elements, and one more
+  module _ (d : A) (xs : List A) (n : ℕ) (l : n < length xs) where
+    kept-next : length (keep p (take (n + 1) xs)) ≡ length (keep p (take n xs)) + length (keep p (getD xs n d ∷ []))
+    kept-next =
+        ap (λ (ys : List A). length (keep p ys)) (take-next xs n d l) ∙ ap length (keep-append p (take n xs) (getD xs n d ∷ []))
+        ∙ length-append (keep p (take n xs)) (keep p (getD xs n d ∷ []))
 
-    pub kept-same : p x ≡ false → length (keep p xs) ≡ length (keep p rest)
-    kept-same h = rw (e, h) refl
+    pub kept-more : p (getD xs n d) ≡ true → length (keep p (take (n + 1) xs)) ≡ length (keep p (take n xs)) + 1
+    kept-more h = kept-next ∙ rw h refl
 
-    pub all-more : p x ≡ true → all p xs ≡ all p rest
-    all-more h = rw (e, h) refl
+    pub kept-same : p (getD xs n d) ≡ false → length (keep p (take (n + 1) xs)) ≡ length (keep p (take n xs))
+    kept-same h = kept-next ∙ rw h (omega arith)
 
-  -- the first element fails
-  pub first-fails : (d : A) (xs : List A) (n : ℕ) → 0 < n → 0 < length xs → p (getD xs 0 d) ≡ false → all p (take n xs) ≡ false
-  first-fails d [] n l m h = absurd (omega (arith, m))
-  first-fails d (x ∷ xs) zero l m h = absurd (omega (arith, l))
-  first-fails d (x ∷ xs) (suc n) l m h = rw h refl
+    pub all-more : all p (take n xs) ≡ true → p (getD xs n d) ≡ true → all p (take (n + 1) xs) ≡ true
+    all-more h k = ap (all p) (take-next xs n d l) ∙ all-append p (take n xs) (getD xs n d ∷ []) ∙ rw (h, k) refl
 
-  pub kept-most : (xs : List A) → length (keep p xs) ≤ length xs
+  -- one of the first n elements fails
+  pub one-fails : (d : A) (xs : List A) (n i : ℕ) → i < n → i < length xs → p (getD xs i d) ≡ false → all p (take n xs) ≡ false
+  one-fails d [] n i l m h = absurd (not-suc-le-zero m)
+  one-fails d (x ∷ xs) zero i l m h = absurd (not-suc-le-zero l)
+  one-fails d (x ∷ xs) (suc n) zero l m h = rw h refl
+  one-fails d (x ∷ xs) (suc n) (suc i) l m h = rw (one-fails d xs n i (omega (arith, l)) (omega (arith, m)) h) (and-false (p x))
+
+  kept-most : (xs : List A) → length (keep p xs) ≤ length xs
   kept-most [] = omega arith
   kept-most (x ∷ xs) = go (p x) (kept-most xs)
     where

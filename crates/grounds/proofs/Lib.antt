@@ -1,3 +1,3 @@
 pub mod KeepLaws
-pub mod WalkLaws
+pub mod TableLaws
 pub mod LineTests

@@ -12,6 +12,8 @@ pub use name::name_hash;
 pub use name::name_length;
 pub use name::name_next;
 pub use name::spells;
+pub use stops::ends_line;
+pub use stops::joins;
 pub use words::after_blanks;
 pub use words::after_word;
 pub use words::count_words;

@@ -2,18 +2,19 @@
 use Prim.Native.Nat.{ℕ, suc, _-_, _≤_}
 use mathlib.Core.Path.{_≡_, refl, sym, subst, ap, _∙_}
 use mathlib.Core.Bool.{true}
-use mathlib.Core.List.{List, [], _∷_, _++_, map, append-nil}
+use mathlib.Core.List.{List, [], _∷_, append-nil}
 use mathlib.Core.Logic.{inl, inr}
 use native.Mathlib.Omega.{arith}
 use lib.Dec.{leb}
-use lib.ListN.{length, getD, take, drop}
+use lib.ListN.{length, getD, take, drop, length-map}
 use lib.Seq.{take-length}
 use Rattle.blif.specs.Words.{Word}
 use Rattle.blif.specs.Subset.{cover, model, inputs, outputs, latch, initOf, lastOf, namesLine, Stage, Statement, stageAfter}
-use Rattle.blif.specs.Names.{definition, defined, namesOf, readsOf}
+use Rattle.blif.specs.Names.{definition, inputsOf, defined, namesOf, readsOf}
 use Rattle.blif.specs.Limits.{named, fewOperands}
 use Rattle.maps.specs.Sheet.{input}
 use Rattle.maps.specs.Limits.{operandsMost}
+use Rattle.blif.proofs.Grammars.{init-last}
 use Rattle.subset.specs.Meant.{PartsOf}
 use Rattle.subset.specs.declared.Parts.{Parts}
 
@@ -21,7 +22,7 @@ abbrev parts : ℕ → ℕ → ℕ → Parts
 parts r d n = record { reads = r; defines = d; names = n }
 
 -- the words of `.names`: its inputs, and last its output
-init-take : (w : Word) (ws : List Word) → initOf w ws ≡ take (length ws) (w ∷ ws)
+pub init-take : (w : Word) (ws : List Word) → initOf w ws ≡ take (length ws) (w ∷ ws)
 init-take w [] = refl
 init-take w (x ∷ ws) = ap (λ ys. w ∷ ys) (init-take x ws)
 
@@ -29,26 +30,18 @@ last-drop : (w : Word) (ws : List Word) → lastOf w ws ∷ [] ≡ drop (length 
 last-drop w [] = refl
 last-drop w (x ∷ ws) = last-drop x ws
 
-init-last : (w : Word) (ws : List Word) → initOf w ws ++ (lastOf w ws ∷ []) ≡ w ∷ ws
-init-last w [] = refl
-init-last w (x ∷ ws) = ap (λ ys. w ∷ ys) (init-last x ws)
-
 pub init-length : (w : Word) (ws : List Word) → length (initOf w ws) ≡ length ws
 init-length w [] = refl
 init-length w (x ∷ ws) = ap suc (init-length x ws)
 
 -- what `.inputs` defines
-inputs-names : (ns : List Word) → namesOf (map (λ n. definition n input []) ns) ≡ ns
+pub inputs-names : (ns : List Word) → namesOf (inputsOf ns) ≡ ns
 inputs-names [] = refl
 inputs-names (n ∷ ns) = ap (λ ys. n ∷ ys) (inputs-names ns)
 
-inputs-reads : (ns : List Word) → readsOf (map (λ n. definition n input []) ns) ≡ []
+inputs-reads : (ns : List Word) → readsOf (inputsOf ns) ≡ []
 inputs-reads [] = refl
 inputs-reads (n ∷ ns) = inputs-reads ns
-
-inputs-count : (ns : List Word) → length (map (λ n. definition n input []) ns) ≡ length ns
-inputs-count [] = refl
-inputs-count (n ∷ ns) = ap suc (inputs-count ns)
 
 pub parts-model : (ws : List Word) → length ws ≡ 1 → PartsOf (model (getD ws 0 [])) ws (parts 0 0 1)
 parts-model [] e = absurd (omega (arith, e))
@@ -62,7 +55,7 @@ parts-inputs ws = record {
   few = refl;
   enough = omega arith;
   named-enough = omega arith;
-  count = inputs-count ws;
+  count = length-map ws (λ (n : Word). definition n input []);
   alone = inr (omega arith);
 }
 

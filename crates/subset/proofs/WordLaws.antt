@@ -1,7 +1,7 @@
 -- The words of a line by their places, from position to position.
 use Prim.Native.Nat.{ℕ, suc, _<_}
 use mathlib.Core.Path.{_≡_, sym, ap, _∙_}
-use mathlib.Core.List.{List, [], _∷_}
+use mathlib.Core.List.{List, []}
 use native.Mathlib.Omega.{arith}
 use lib.ListN.{length, getD, drop}
 use Rattle.blif.specs.Words.{Word}
@@ -9,7 +9,7 @@ use Rattle.blif.specs.Scan.{from, endsWord, endsBlanks, nameAt, wordsAt}
 use Rattle.blif.proofs.Walking.{first-word, words-more}
 
 -- from the end of the first word on, there is one word less and each stands one place earlier
-pub next-place : (s : List ℕ) (at first rest : ℕ) → drop first s ≡ from endsBlanks (drop at s) → 0 < length (wordsAt s at) → drop rest s ≡ from endsWord (drop first s)
+next-place : (s : List ℕ) (at first rest : ℕ) → drop first s ≡ from endsBlanks (drop at s) → 0 < length (wordsAt s at) → drop rest s ≡ from endsWord (drop first s)
     → (length (wordsAt s at) ≡ suc (length (wordsAt s rest))) × ((i : ℕ) → getD (wordsAt s at) (suc i) [] ≡ getD (wordsAt s rest) i [])
 next-place s at first rest e l r =
     let q = words-more s at first rest e l r in

@@ -1,14 +1,14 @@
 -- `definitions::keep_node` meets its contract.
-use Prim.Native.Nat.{ℕ, _+_, _≤_, _<_}
-use mathlib.Core.Path.{_≡_, refl, sym, ap, _∙_}
-use mathlib.Core.List.{List, [], _∷_, _++_, map}
+use Prim.Native.Nat.{_+_}
+use mathlib.Core.Path.{_≡_, ap, _∙_}
+use mathlib.Core.List.{[], _∷_, _++_}
 use borrow.Author.Needs.{needs}
 use native.Mathlib.Omega.{arith}
 use lib.ListN.{length, getD, take}
 use lib.Seq.{length-take-le}
 use Rattle.maps.specs.Code.{kindMeant}
 use Rattle.blif.specs.Words.{Word}
-use Rattle.blif.specs.Scan.{nameAt, wordsAt}
+use Rattle.blif.specs.Scan.{wordsAt}
 use Rattle.blif.specs.Names.{definition}
 use Rattle.blif.proofs.Walking.{word-here, words-after}
 use Rattle.records.specs.Rows.{nodePlace, rowNumbers}

@@ -1,6 +1,5 @@
 -- `definitions::kind_of` meets its contract.
-use mathlib.Core.Path.{_≡_, sym, _∙_}
-use borrow.Author.Needs.{needs}
+use mathlib.Core.Path.{sym, _∙_}
 use Rattle.definitions.proofs.Lawful.{kind-none, kind-some}
 use Rattle.definitions.proofs.kind_of.Statement.{statement}
 use Rattle.definitions.proofs.kind_of.Tie as tie

@@ -1,5 +1,5 @@
 -- `definitions::row_of` meets its contract, kind by kind.
-use mathlib.Core.Path.{_≡_, refl}
+use mathlib.Core.Path.{refl}
 use borrow.Author.Needs.{needs}
 use Rattle.definitions.proofs.row_of.Statement.{statement}
 use Rattle.definitions.proofs.row_of.Tie as tie

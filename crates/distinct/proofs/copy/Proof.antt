@@ -1,12 +1,13 @@
 -- `distinct::copy` meets its contract: the elements before i are copied.
-use Prim.Native.Nat.{_+_, _-_, _≤_}
+use Prim.Native.Nat.{_-_, _≤_}
 use mathlib.Core.Path.{_≡_, sym, ap, _∙_}
 use mathlib.Core.List.{_∷_, [], _++_}
 use borrow.Author.Needs.{needs}
 use native.Mathlib.Omega.{arith}
 use lib.ListN.{length, getD, take, length-set}
 use lib.Seq.{take-all}
-use Rattle.distinct.proofs.Filling.{take-write, take-next}
+use Rattle.blif.proofs.Positions.{take-next}
+use Rattle.distinct.proofs.Filling.{take-write}
 use Rattle.distinct.proofs.copy.Statement.{statement}
 use Rattle.distinct.proofs.copy.Tie as tie
 
@@ -24,7 +25,7 @@ loop-again c =
     let l = c .before .before .loop in
     let from = c .before .before .before .args .from .now in
     let v = getD from (l .i) 0 in
-    (take-write (l .to) (l .i) v (omega arith) ∙ ap (λ r. r ++ (v ∷ [])) (l .inv .0) ∙ sym (take-next from (l .i) (omega (arith, c .before .before .before .pre))), length-set (l .to) (l .i) v ∙ l .inv .1, omega (arith, length-set (l .to) (l .i) v))
+    (take-write (l .to) (l .i) v (omega arith) ∙ ap (λ r. r ++ (v ∷ [])) (l .inv .0) ∙ sym (take-next from (l .i) 0 (omega (arith, c .before .before .before .pre))), length-set (l .to) (l .i) v ∙ l .inv .1, omega (arith, length-set (l .to) (l .i) v))
 
 returns : tie.Need-returns Inv-loop μ-loop
 returns c =

@@ -22,7 +22,7 @@ returns-2 c = λ P.
     let b = e .before in
     let a = b .before .before .args in
     let ws = wordsAt (a .text .now) (a .rest) in
-    operands-many (a .nodes) ws (statementMeant (a .statement) ws) (a .parts) P (sym (b .all-short .ensures) ∙ not-false _ (e .if1 .left)) (c .if2 .taken)
+    operands-many (a .nodes) ws (statementMeant (a .statement) ws) (a .parts) P (sym (b .all-short .ensures) ∙ not-false _ (e .if1 .left)) (omega (arith, c .if2 .taken))
 
 returns-3 : tie.Need-returns-3
 returns-3 c = λ P.
