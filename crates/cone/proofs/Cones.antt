@@ -1,206 +1,225 @@
--- The walk's table and the cones of the sheet: its members are the cone inside the marks, and its leaves are that cone's cut.
-use Prim.Native.Nat.{ℕ, zero, suc, _+_, _≤_, _<_, min}
-use mathlib.Core.Path.{_≡_, refl, sym, subst, ap, _∙_, fun-ext}
-use mathlib.Core.Bool.{Bool, true, not, _&&_}
-use mathlib.Core.List.{List, [], _∷_}
+-- The walk and the cones of the sheet: its members are the cone inside the marks, and its leaves are that cone's cut.
+use Prim.Native.Nat.{ℕ, zero, suc, _+_, _≤_, _<_}
+use mathlib.Core.Path.{_≡_, refl, sym, ap, _∙_, fun-ext}
+use mathlib.Core.Bool.{Bool, true, false, not, cond, _&&_, _||_}
+use mathlib.Core.List.{List, [], _∷_, append-nil}
 use mathlib.Core.Logic.{_⊎_, inl, inr}
-use native.Mathlib.Decide.{ℕ-discrete, decLt}
+use native.Mathlib.Decide.{le-ind}
 use native.Mathlib.Omega.{arith}
 use lib.Dec.{eqb}
-use lib.ListN.{length, getD, List·getD-eq-default}
-use borrow.Author.Tests.{eqb-true, eq-eqb, ne-eqb}
+use lib.ListN.{length, getD, take}
+use borrow.Author.Tests.{ne-eqb, not-true}
 use Rattle.maps.specs.Lists.{mem, any, keep, below}
 use Rattle.maps.specs.Sheet.{Sheet, node, size}
-use Rattle.maps.specs.Cut as Cut
-use Rattle.maps.specs.Cut.{reads, logicNode, Path-to, end, edge, cut}
+use Rattle.maps.specs.Cut.{reads, logicNode, Path-to, end, edge, leaf, cut}
 use Rattle.maps.proofs.Over.{and-true, same-test}
-use Rattle.maps.proofs.Member.{any-found, any-of, or-true, or-right, below-in}
+use Rattle.maps.proofs.Member.{any-found, any-of, below-in, mem-out, mem-index, keep-append}
 use Rattle.maps.proofs.Enumerate.{clash}
-use Rattle.rows.specs.Table.{Falling, countIn, operandIn}
+use Rattle.rows.specs.Table.{Falling}
 use Rattle.cone.specs.Walk.{marked, ConeInside, Question, FitTest}
-use Rattle.cone.specs.Part.{Member, Met, Read, Settled, member, leaf, Walked, leavesBelow, Listed}
-use Rattle.cone.proofs.Listing.{leaves-end}
+use Rattle.cone.specs.Looks.{looks, leavesMet, Ends, all, wide}
+use Rattle.cone.specs.Part.{partOf, Ended, leavesBelow}
+use Rattle.cone.proofs.LeafLaws.{met-grows}
+use Rattle.cone.proofs.Visits.{all-met}
+use Rattle.cone.proofs.LookLaws.{members, root-member, marked-member, member-is, looks-low, member-low, looks-closed, looks-read}
 
 -- there is one cone of v inside the marks
 module _ (S : Sheet) (marked : ℕ → Bool) (v : ℕ) where
+  -- C has v and marked nodes only
+  abbrev Inside : (ℕ → Bool) → Type 0
+  Inside C = (u : ℕ) → C u ≡ true → (u ≡ v) ⊎ (marked u ≡ true)
+
+  -- D has the marked operands of its members
+  abbrev Whole : (ℕ → Bool) → Type 0
+  Whole D = (m u : ℕ) → D m ≡ true → reads S m u ≡ true → marked u ≡ true → D u ≡ true
+
   -- a member of one is a member of the other
-  joins : {C D : ℕ → Bool} → ConeInside S marked v C → ConeInside S marked v D → {u : ℕ} → C u ≡ true → Path-to S C v u → D u ≡ true
-  joins c d e end = d .isCone .holds
-  joins {C} {D} c d {u} e (edge m r i p) = go (joins c d i p) (c .inside u e)
+  joins : (C D : ℕ → Bool) → Inside C → D v ≡ true → Whole D → {u : ℕ} → C u ≡ true → Path-to S C v u → D u ≡ true
+  joins C D inside root whole e end = root
+  joins C D inside root whole {u} e (edge m r i p) = go (joins C D inside root whole i p) (inside u e)
     where
       go : D m ≡ true → (u ≡ v) ⊎ (marked u ≡ true) → D u ≡ true
-      go h (inl q) = ap D q ∙ d .isCone .holds
-      go h (inr t) = d .whole m u h r t
+      go h (inl q) = ap D q ∙ root
+      go h (inr t) = whole m u h r t
 
   pub one-cone : (C D : ℕ → Bool) → ConeInside S marked v C → ConeInside S marked v D → (u : ℕ) → C u ≡ D u
-  one-cone C D c d u = same-test (C u) (D u) (λ e. joins c d e (c .isCone .joined u e)) (λ e. joins d c e (d .isCone .joined u e))
+  one-cone C D c d u =
+      same-test (C u) (D u) (λ e. joins C D (c .inside) (d .isCone .holds) (d .whole) e (c .isCone .joined u e))
+      (λ e. joins D C (d .inside) (c .isCone .holds) (c .whole) e (d .isCone .joined u e))
 
--- the elements of a list are those at its places
-at-mem : (xs : List ℕ) (j : ℕ) → j < length xs → mem (getD xs j 0) xs ≡ true
-at-mem [] j l = absurd (omega arith)
-at-mem (x ∷ xs) zero l = rw (eq-eqb x x refl)
-at-mem (x ∷ xs) (suc j) l = or-right (eqb (getD xs j 0) x) (mem (getD xs j 0) xs) (at-mem xs j (omega arith))
+  -- the members that the walk finds
+  module _ (falls : (m u : ℕ) → m ≤ v → reads S m u ≡ true → u < m) where
+    abbrev found : ℕ → Bool
+    found = members marked v (looks S marked v)
 
-mem-at : (u : ℕ) (xs : List ℕ) → mem u xs ≡ true → (j : ℕ) × (j < length xs) × (getD xs j 0 ≡ u)
-mem-at u [] e = clash e
-mem-at u (x ∷ xs) e = go (mem-at u xs) (or-true (eqb u x) (mem u xs) e)
-  where
-    go : (mem u xs ≡ true → (j : ℕ) × (j < length xs) × (getD xs j 0 ≡ u)) → (eqb u x ≡ true) ⊎ (mem u xs ≡ true) → (j : ℕ) × (j < length (x ∷ xs)) × (getD (x ∷ xs) j 0 ≡ u)
-    go rec (inl h) = (zero, omega arith, sym (eqb-true u x h))
-    go rec (inr h) = let r = rec h in (suc (r .0), omega (arith, r .1), r .2)
+    root : found v ≡ true
+    root = root-member marked v (looks S marked v)
 
-abbrev members : (part : List ℕ) → ℕ → Bool
-members p u = eqb (getD p u 0) 1
+    inside : Inside found
+    inside u e = go (member-is marked v (looks S marked v) u e)
+      where
+        go : (u ≡ v) ⊎ ((marked u ≡ true) × (mem u (looks S marked v) ≡ true)) → (u ≡ v) ⊎ (marked u ≡ true)
+        go (inl q) = inl q
+        go (inr a) = inr (a .0)
 
-module _ (S : Sheet) (g marks p : List ℕ) (v : ℕ) (falling : Falling g) (asked : Question S g marks v) (walked : Walked g marks v p) where
-  -- what is met has an id below 256
-  low : (u : ℕ) → Met p u → u < 256
-  low u n = go (decLt u 256)
-    where
-      go : Dec (u < 256) → u < 256
-      go (yes l) = l
-      go (no f) = absurd (n (List·getD-eq-default p 0 (omega (arith, walked .wide))))
+    whole : Whole found
+    whole m u e r t = marked-member marked v (looks S marked v) u t (looks-closed S marked v falls m u e r)
 
-  member-met : (u : ℕ) → Member p u → Met p u
-  member-met u e z = omega arith
+    -- a member is v, or a member with a higher id reads it; n bounds how far that goes on
+    path : (n u : ℕ) → v ≤ u + n → found u ≡ true → Path-to S found v u
+    path zero u h e =
+        let q : u ≡ v = omega (arith, member-low S marked v falls u e) in
+        rw q end
+    path (suc n) u h e = go (path n) (member-is marked v (looks S marked v) u e)
+      where
+        go : ((m : ℕ) → v ≤ m + n → found m ≡ true → Path-to S found v m) → (u ≡ v) ⊎ ((marked u ≡ true) × (mem u (looks S marked v) ≡ true))
+            → Path-to S found v u
+        go rec (inl q) = rw q end
+        go rec (inr a) =
+            let r = looks-read S marked v falls u (a .1) in
+            let m = r .0 in
+            edge m (r .2) (r .1) (rec m (omega (arith, falls m u (member-low S marked v falls m (r .1)) (r .2))) (r .1))
 
-  -- a node's operands, in the table and in the sheet
-  read-by : (m j : ℕ) → m < 256 → j < countIn g m → reads S m (operandIn g m j) ≡ true
-  read-by m j l h =
-      let c = asked .tabled .counts m l in
-      let k : j < length (node S m .operands) = omega arith in
-      rw (asked .tabled .operands m j l k) (at-mem (node S m .operands) j k)
+    -- they are the cone, if they are logic nodes
+    pub found-cone : ((u : ℕ) → found u ≡ true → logicNode S u ≡ true) → ConeInside S marked v found
+    found-cone logics =
+        record {
+          isCone = record { holds = root; logics = logics; joined = λ u e. path v u (omega arith) e };
+          inside = inside;
+          whole = whole;
+        }
 
-  read-at : (m u : ℕ) → m < 256 → reads S m u ≡ true → (j : ℕ) × (j < countIn g m) × (operandIn g m j ≡ u)
-  read-at m u l r =
-      let a = mem-at u (node S m .operands) r in
-      (a .0, omega (arith, a .1, asked .tabled .counts m l), asked .tabled .operands m (a .0) l (a .1) ∙ a .2)
+    -- whatever is the cone has these members
+    pub cone-found : (C : ℕ → Bool) → ConeInside S marked v C → (u : ℕ) → C u ≡ found u
+    cone-found C c u =
+        same-test (C u) (found u) (λ e. joins C found (c .inside) root whole e (c .isCone .joined u e))
+        (λ e. joins found C inside (c .isCone .holds) (c .whole) e (path v u (omega arith) e))
 
-  -- a member is v, or a member with a higher id reads it; n bounds how far that goes on
-  path : (n u : ℕ) → 256 ≤ u + n → Member p u → Path-to S (members p) v u × (u ≤ v)
-  path zero u h e = absurd (omega (arith, low u (member-met u e)))
-  path (suc n) u h e = go (path n) (ℕ-discrete u v)
-    where
-      go : ((m : ℕ) → 256 ≤ m + n → Member p m → Path-to S (members p) v m × (m ≤ v)) → Dec (u ≡ v) → Path-to S (members p) v u × (u ≤ v)
-      go rec (yes q) = (rw q end, omega arith)
-      go rec (no f) =
-          let r = walked .read u f (member-met u e) in
-          let m = r .reader in
-          let l = low m (member-met m (r .member)) in
-          let fall = falling .falls m (r .place) l (r .within) in
-          let q = r .operand in
-          let ih = rec m (omega arith) (r .member) in
-          let le = ih .1 in
-          (edge m (subst (λ (w : ℕ). reads S m w ≡ true) q (read-by m (r .place) l (r .within))) (eq-eqb _ _ (r .member)) (ih .0), omega arith)
+-- selections that agree below n
+keep-same : (p q : ℕ → Bool) (n : ℕ) → ((u : ℕ) → u < n → p u ≡ q u) → keep p (below n) ≡ keep q (below n)
+keep-same p q zero h = refl
+keep-same p q (suc n) h =
+    rw (keep-append p (below n) (n ∷ []), keep-append q (below n) (n ∷ []), keep-same p q n (λ u l. h u (omega arith)), h n (omega arith))
 
-  below-root : (m : ℕ) → Member p m → m ≤ v
-  below-root m e = path 256 m (omega arith) e .1
+-- a selection that has nothing from v on
+keep-end : (p : ℕ → Bool) (v : ℕ) → ((u : ℕ) → v ≤ u → p u ≡ false) → (n : ℕ) → v ≤ n → keep p (below n) ≡ keep p (below v)
+keep-end p v h =
+    le-ind (λ n. keep p (below n) ≡ keep p (below v)) refl
+    (λ n l e. rw (keep-append p (below n) (n ∷ []), h n l) (append-nil (keep p (below n)) ∙ e))
 
-  operand-met : (m j : ℕ) → Member p m → j < countIn g m → Met p (operandIn g m j)
-  operand-met m j e h = go (ℕ-discrete m v)
-    where
-      of : Settled g marks p m → Met p (operandIn g m j)
-      of (member q n all) = all j h
-      of (leaf q z) = absurd (omega arith)
+module _ (S : Sheet) (g marks : List ℕ) (v : ℕ) (falling : Falling g) (low : v < 256) (asked : Question S g marks v) where
+  -- operands fall: they do in the table, which holds those of the sheet
+  pub reads-fall : (m u : ℕ) → m ≤ v → reads S m u ≡ true → u < m
+  reads-fall m u l r =
+      let a = mem-index 0 (node S m .operands) (mem-out u (node S m .operands) r) in
+      let h : m < 256 = omega arith in
+      let fall = falling .falls m (a .0) h (omega (arith, a .1, asked .tabled .counts m h)) in
+      omega (arith, fall, asked .tabled .operands m (a .0) h (a .1), a .2)
 
-      go : Dec (m ≡ v) → Met p (operandIn g m j)
-      go (yes q) = subst (λ (w : ℕ). j < countIn g w → Met p (operandIn g w j)) (sym q) (walked .operands j) h
-      go (no f) = of (walked .settled m f (member-met m e))
+  -- what the walk looks at, and the members
+  abbrev looked : List ℕ
+  looked = looks S (marked marks) v
 
-  -- what a member reads is settled
-  operand : (m u : ℕ) → Member p m → reads S m u ≡ true → Settled g marks p u
-  operand m u e r =
-      let l = low m (member-met m e) in
-      let a = read-at m u l r in
-      let fall = falling .falls m (a .0) l (a .1) in
-      let q = a .2 in
-      let le = below-root m e in
-      walked .settled u (λ z. omega arith) (subst (Met p) q (operand-met m (a .0) e (a .1)))
+  abbrev cone : ℕ → Bool
+  cone = members (marked marks) v (looks S (marked marks) v)
 
-  inside : (u : ℕ) → members p u ≡ true → (u ≡ v) ⊎ (marked marks u ≡ true)
-  inside u e = go (ℕ-discrete u v)
-    where
-      one : Member p u
-      one = eqb-true (getD p u 0) 1 e
-
-      of : Settled g marks p u → marked marks u ≡ true
-      of (member q n all) = rw (ne-eqb _ _ n)
-      of (leaf q z) = absurd (omega (arith, one))
-
-      go : Dec (u ≡ v) → (u ≡ v) ⊎ (marked marks u ≡ true)
-      go (yes q) = inl q
-      go (no f) = inr (of (walked .settled u f (member-met u one)))
-
-  whole : (m u : ℕ) → members p m ≡ true → reads S m u ≡ true → marked marks u ≡ true → members p u ≡ true
-  whole m u e r t = of (operand m u (eqb-true _ _ e) r)
-    where
-      of : Settled g marks p u → members p u ≡ true
-      of (member q n all) = eq-eqb _ _ q
-      of (leaf q z) = clash (rw (eq-eqb _ _ z) at t)
-
-  -- the leaves of the cone are those of the table
-  leaf-two : (u : ℕ) → Cut.leaf S (members p) u ≡ true → eqb (getD p u 0) 2 ≡ true
-  leaf-two u e =
-      let a = and-true (any (λ m. members p m && reads S m u) (below (size S))) (not (members p u)) e in
-      let r = any-found (λ m. members p m && reads S m u) (below (size S)) (a .0) in
-      let b = and-true (members p (r .0)) (reads S (r .0) u) (r .2) in
-      of (a .1) (operand (r .0) u (eqb-true _ _ (b .0)) (b .1))
-    where
-      of : not (members p u) ≡ true → Settled g marks p u → eqb (getD p u 0) 2 ≡ true
-      of t (member q n all) = clash (rw (eq-eqb _ _ q) at t)
-      of t (leaf q z) = eq-eqb _ _ q
-
-  -- a leaf of the table is read by a member
-  leaf-read : (u : ℕ) → getD p u 0 ≡ 2 → Read g p u
-  leaf-read u e = walked .read u (λ q. omega (arith, walked .root, ap (λ (w : ℕ). getD p w 0) q)) (λ z. omega arith)
-
-  two-leaf : (u : ℕ) → eqb (getD p u 0) 2 ≡ true → Cut.leaf S (members p) u ≡ true
-  two-leaf u e =
-      let two = eqb-true (getD p u 0) 2 e in
-      let r = leaf-read u two in
-      let m = r .reader in
-      let reading : reads S m u ≡ true = subst (λ (w : ℕ). reads S m w ≡ true) (r .operand) (read-by m (r .place) (low m (member-met m (r .member))) (r .within)) in
-      let found : any (λ m. members p m && reads S m u) (below (size S)) ≡ true =
-      any-of (λ m. members p m && reads S m u) (below-in (size S) m (omega (arith, asked .within, below-root m (r .member)))) (rw (eq-eqb _ _ (r .member), reading)) in
-      rw (found, ne-eqb (getD p u 0) 1 (λ q. omega arith))
-
-  cut-is : cut S (members p) ≡ leavesBelow p v
-  unfolding cut leavesBelow
-  cut-is =
-      ap (λ (t : ℕ → Bool). keep t (below (size S))) (fun-ext (λ u. same-test _ _ (leaf-two u) (two-leaf u)))
-      ∙ leaves-end p past (size S) (omega (arith, asked .within))
-    where
-      past : (u : ℕ) → v ≤ u → getD p u 0 ≡ 2 → ⊥
-      past u l e =
-          let r = leaf-read u e in
-          let m = r .reader in
-          let fall = falling .falls m (r .place) (low m (member-met m (r .member))) (r .within) in
-          let q = r .operand in
-          let le = below-root m (r .member) in
-          omega arith
-
-  cone-inside : ConeInside S (marked marks) v (members p)
-  cone-inside =
-      record {
-        isCone =
-            record {
-              holds = eq-eqb _ _ (walked .root);
-              logics = λ u e. of u (inside u e);
-              joined = λ u e. path 256 u (omega arith) (eqb-true _ _ e) .0;
-            };
-        inside = inside;
-        whole = whole;
-      }
+  -- the members are the cone inside the marks
+  pub cone-inside : ConeInside S (marked marks) v (members (marked marks) v (looks S (marked marks) v))
+  cone-inside = found-cone S (marked marks) v reads-fall (λ u e. of u (inside S (marked marks) v reads-fall u e))
     where
       of : (u : ℕ) → (u ≡ v) ⊎ (marked marks u ≡ true) → logicNode S u ≡ true
       of u (inl q) = ap (logicNode S) q ∙ asked .logic
       of u (inr t) = asked .logics u t
 
-  pub fit-test : (k r : ℕ) (list : List ℕ) → Listed p v k r list → FitTest S (marked marks) v k r list
-  fit-test k r list h =
-      record {
-        cone = members p;
-        isCone = cone-inside;
-        count = h .count ∙ ap (λ (l : List ℕ). min (length l) (k + 1)) (sym cut-is);
-        leaves = λ l. h .leaves l ∙ sym cut-is;
-      }
+  -- A leaf of the cone is looked at, since a member reads it, and is not marked, or it would be a member.
+  leaf-met : (u : ℕ) → leaf S cone u ≡ true → (mem u looked && not (marked marks u)) ≡ true
+  leaf-met u e =
+      let a = and-true (any (λ m. cone m && reads S m u) (below (size S))) (not (cone u)) e in
+      let r = any-found (λ m. cone m && reads S m u) (below (size S)) (a .0) in
+      let b = and-true (cone (r .0)) (reads S (r .0) u) (r .2) in
+      let seen = looks-closed S (marked marks) v reads-fall (r .0) u (b .0) (b .1) in
+      rw seen (go (eqb u v) (marked marks u) (rw seen at (a .1)))
+    where
+      go : (x y : Bool) → not (x || (y && true)) ≡ true → not y ≡ true
+      go true y h = clash h
+      go false true h = clash h
+      go false false h = refl
+
+  met-leaf : (u : ℕ) → (mem u looked && not (marked marks u)) ≡ true → leaf S cone u ≡ true
+  met-leaf u e =
+      let a = and-true (mem u looked) (not (marked marks u)) e in
+      let r = looks-read S (marked marks) v reads-fall u (a .0) in
+      let m = r .0 in
+      let l = looks-low S (marked marks) v reads-fall u (a .0) in
+      let here = below-in (size S) m (omega (arith, asked .within, member-low S (marked marks) v reads-fall m (r .1))) in
+      let found : any (λ m. cone m && reads S m u) (below (size S)) ≡ true = any-of (λ m. cone m && reads S m u) here (rw (r .1, r .2)) in
+      rw (found, ne-eqb u v (λ q. omega arith), not-true (marked marks u) (a .1))
+
+  -- its cut is what is looked at and not marked
+  pub cut-met : cut S (members (marked marks) v (looks S (marked marks) v))
+      ≡ keep (λ u. mem u (looks S (marked marks) v) && not (marked marks u)) (below (size S))
+  unfolding cut
+  cut-met = ap (λ (t : ℕ → Bool). keep t (below (size S))) (fun-ext (λ u. same-test _ _ (leaf-met u) (met-leaf u)))
+
+  -- so the leaves that are met are those of the cut
+  cut-count : length (cut S cone) ≡ leavesMet S (marked marks) looked
+  unfolding leavesMet
+  cut-count = ap length cut-met
+
+  -- `part` is the table of the whole walk
+  abbrev Shown : (part : List ℕ) → Type 0
+  Shown part = (u : ℕ) → u < 256 → getD part u 0 ≡ partOf (marked marks) v looked u
+
+  -- So `part` has the leaves of the cut, all below v.
+  cut-listed : (part : List ℕ) → Shown part → cut S cone ≡ leavesBelow part v
+  unfolding leavesBelow
+  cut-listed part h =
+      cut-met ∙ keep-end (λ u. mem u looked && not (marked marks u)) v past (size S) (omega (arith, asked .within))
+      ∙ keep-same (λ u. mem u looked && not (marked marks u)) (λ u. eqb (getD part u 0) 2) v two
+    where
+      past : (u : ℕ) → v ≤ u → (mem u looked && not (marked marks u)) ≡ false
+      past u l = go (mem u looked) refl
+        where
+          go : (b : Bool) → mem u looked ≡ b → (b && not (marked marks u)) ≡ false
+          go true e = absurd (omega (arith, looks-low S (marked marks) v reads-fall u e))
+          go false e = refl
+
+      two : (u : ℕ) → u < v → (mem u looked && not (marked marks u)) ≡ eqb (getD part u 0) 2
+      two u l = rw (h u (omega arith), ne-eqb u v (λ q. omega arith)) (go (mem u looked) (marked marks u))
+        where
+          go : (a b : Bool) → (a && not b) ≡ eqb (cond a (cond b 1 2) 0) 2
+          go true true = refl
+          go true false = refl
+          go false b = refl
+
+  module _ (k : ℕ) (o part : List ℕ) (spare : ℕ) (h : Ended S g (marked marks) v k (looks S (marked marks) v) o part spare) where
+    -- The walk has ended early: the cut has more than k leaves, since so many are among the operands up to there.
+    pub fit-wide : spare ≡ 0 → (list : List ℕ) → FitTest S (marked marks) v k (k + 1) list
+    fit-wide none list = go (h .ends)
+      where
+        many : k < length (cut S cone) → FitTest S (marked marks) v k (k + 1) list
+        many l = record { cone = cone; isCone = cone-inside; count = omega arith; leaves = λ z. absurd (omega arith) }
+
+        go : Ends S (marked marks) k looked o → FitTest S (marked marks) v k (k + 1) list
+        go (all e m) = absurd (omega (arith, h .walking .spared))
+        go (wide b u rest p q x y) = many (omega (arith, cut-count, met-grows S (marked marks) o rest, ap (leavesMet S (marked marks)) q))
+
+    -- It has not: all is looked at, and `part` has the leaves of the cut.
+    module _ (spares : 0 < spare) where
+      whole-looked : Shown part × (length (cut S cone) + spare ≡ k + 1)
+      whole-looked =
+          let w = all-met S g (marked marks) v k looked o part spare h spares in
+          (w .table, omega (arith, cut-count, w .spared))
+
+      pub leaves-met : length (leavesBelow part v) + spare ≡ k + 1
+      leaves-met = omega (arith, whole-looked .1, ap length (cut-listed part (whole-looked .0)))
+
+      pub fit-listed : (r : ℕ) (list : List ℕ) → r ≡ length (leavesBelow part v) → take r list ≡ leavesBelow part v → FitTest S (marked marks) v k r list
+      fit-listed r list count leaves =
+          let q = cut-listed part (whole-looked .0) in
+          record {
+            cone = cone;
+            isCone = cone-inside;
+            count = omega (arith, whole-looked .1, count, ap length q);
+            leaves = λ z. leaves ∙ sym q;
+          }

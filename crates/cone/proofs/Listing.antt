@@ -2,7 +2,7 @@
 use Prim.Native.Nat.{ℕ, suc, _+_, _≤_, _<_}
 use mathlib.Core.Path.{_≡_, refl, sym, ap, _∙_}
 use mathlib.Core.Bool.{cond}
-use mathlib.Core.List.{List, [], _∷_, _++_}
+use mathlib.Core.List.{List, [], _∷_, _++_, append-nil, append-assoc}
 use native.Mathlib.Numerals.{add-one}
 use native.Mathlib.Decide.{le-ind}
 use native.Mathlib.Omega.{arith}
@@ -12,11 +12,7 @@ use lib.Seq.{take-suc-set}
 use borrow.Author.Tests.{eq-eqb, ne-eqb}
 use Rattle.maps.specs.Lists.{below}
 use Rattle.maps.proofs.Member.{keep-append}
-use Rattle.cone.specs.Part.{leavesBelow, Listed}
-
-++-nil : (l : List ℕ) → l ++ [] ≡ l
-++-nil [] = refl
-++-nil (a ∷ l) = ap (λ (m : List ℕ). a ∷ m) (++-nil l)
+use Rattle.cone.specs.Part.{leavesBelow}
 
 module _ (p : List ℕ) where
   leaves-turn : (i : ℕ) → leavesBelow p (suc i) ≡ leavesBelow p i ++ cond (eqb (getD p i 0) 2) (i ∷ []) []
@@ -28,15 +24,7 @@ module _ (p : List ℕ) where
 
   -- a node that is no leaf adds nothing
   leaves-same : (i : ℕ) → (getD p i 0 ≡ 2 → ⊥) → leavesBelow p (suc i) ≡ leavesBelow p i
-  leaves-same i f = rw (leaves-turn i, ne-eqb _ _ f) (++-nil (leavesBelow p i))
-
-  leaves-grow : (i v : ℕ) → i ≤ v → length (leavesBelow p i) ≤ length (leavesBelow p v)
-  leaves-grow i =
-      le-ind (λ m. length (leavesBelow p i) ≤ length (leavesBelow p m)) (omega arith) (λ m l h. rw (leaves-turn m, length-append) (omega arith))
-
-  -- from v on there are none
-  pub leaves-end : {v : ℕ} → ((u : ℕ) → v ≤ u → getD p u 0 ≡ 2 → ⊥) → (n : ℕ) → v ≤ n → leavesBelow p n ≡ leavesBelow p v
-  leaves-end {v} f = le-ind (λ m. leavesBelow p m ≡ leavesBelow p v) refl (λ m l h. leaves-same m (f m l) ∙ h)
+  leaves-same i f = rw (leaves-turn i, ne-eqb _ _ f) (append-nil (leavesBelow p i))
 
   -- the list so far: its first n are the leaves below i
   pub listed-none : [] ≡ leavesBelow p 0
@@ -49,18 +37,19 @@ module _ (p : List ℕ) where
   pub listed-more : (list : List ℕ) (n i : ℕ) → n < length list → getD p i 0 ≡ 2 → take n list ≡ leavesBelow p i → take (n + 1) (set list n i) ≡ leavesBelow p (i + 1)
   listed-more list n i l q e = rw (leaves-more i q, add-one, take-suc-set list n i l, e)
 
-  -- at the leaf i there are more than k
-  pub listed-over : (list : List ℕ) (v k n i : ℕ) → i < v → getD p i 0 ≡ 2 → n ≡ k → n < length list → take n list ≡ leavesBelow p i → Listed p v k (k + 1) list
-  listed-over list v k n i l q f w e =
-      let a = length-take n list in
-      let b = ap length e in
-      let d = ap length (leaves-more i q) in
-      let x = length-append (leavesBelow p i) (i ∷ []) in
-      let y = leaves-grow (i + 1) v (omega arith) in
-      record { count = omega arith; leaves = λ h. absurd (omega arith) }
+  leaves-begin : (i v : ℕ) → i ≤ v → (s : List ℕ) × (leavesBelow p v ≡ leavesBelow p i ++ s)
+  leaves-begin i =
+      le-ind (λ m. (s : List ℕ) × (leavesBelow p m ≡ leavesBelow p i ++ s)) ([], sym (append-nil (leavesBelow p i)))
+      (λ m l h.
+      let more = cond (eqb (getD p m 0) 2) (m ∷ []) [] in
+      (h .0 ++ more, leaves-turn m ∙ ap (λ (xs : List ℕ). xs ++ more) (h .1) ∙ append-assoc (leavesBelow p i) (h .0) more))
 
-  pub listed-done : (list : List ℕ) (v k n : ℕ) → n ≤ k → n < length list → take n list ≡ leavesBelow p v → Listed p v k n list
-  listed-done list v k n l w e =
-      let a = length-take n list in
-      let b = ap length e in
-      record { count = omega arith; leaves = λ h. e }
+  -- as many leaves are below i as below v: they are all
+  pub leaves-all : (i v : ℕ) → i ≤ v → length (leavesBelow p v) ≡ length (leavesBelow p i) → leavesBelow p i ≡ leavesBelow p v
+  leaves-all i v l e =
+      let b = leaves-begin i v l in
+      go (b .0) (b .1) (omega (arith, ap length (b .1), length-append (leavesBelow p i) (b .0)))
+    where
+      go : (s : List ℕ) → leavesBelow p v ≡ leavesBelow p i ++ s → length s ≡ 0 → leavesBelow p i ≡ leavesBelow p v
+      go [] q z = sym (append-nil (leavesBelow p i)) ∙ sym q
+      go (x ∷ s) q z = absurd (omega arith)

@@ -1,80 +1,97 @@
 // The cone of a node inside marked nodes: the walk that finds it, and the test whether its cut fits.
 // A node whose mark is not 0 may be a member. `part` holds 0 at a node that is not met, 1 at a member, 2 at a leaf. Ids fall from a node to
-// its operands, and each member's operands are walked once.
-ghost use Prim.Native.Nat.{ℕ, _<_, _≤_};
-ghost use Rattle.maps.specs.Sheet.{Sheet};
-ghost use Rattle.rows.specs.Table.{Falling, countIn, operandIn};
+// its operands, and each member's operands are walked once. `spare` is how many more leaves make the cut too wide: at 0 the walk is over.
+ghost use Prim.Native.Nat.{ℕ, _+_, _<_, _≤_};
+ghost use mathlib.Core.Path.{_≡_};
+ghost use mathlib.Core.List.{List};
+ghost use lib.ListN.{length, take, drop};
+ghost use Rattle.maps.specs.Sheet.{Sheet, node};
+ghost use Rattle.rows.specs.Table.{Falling};
 ghost use Rattle.cone.specs.Walk.{marked, Question, FitTest};
-ghost use Rattle.cone.specs.Part.{Member, Met, Lent, Read, Grown, Walked, Listed};
+ghost use Rattle.cone.specs.Looks.{look, lookAll, looks};
+ghost use Rattle.cone.specs.Part.{Lent, Walking, Ended, leavesBelow};
 use rows::Graph;
 use rows::count_in;
 use rows::operand_in;
 
-// Meets u, which a member reads: as a leaf, or as a member with its operands. A node that is met stays as it is.
-fn visit(graph: &Graph, marks: &[u8; 256], part: &mut [u8; 256], u: u32)
+// Meets u, which a member reads: as a leaf, or as a member with its operands. A node that is met stays as it is. How many leaves are spare then.
+fn visit(graph: &Graph, marks: &[u8; 256], part: &mut [u8; 256], u: u32, spare: u32) -> u32
     requires { ⌜ Lent (now graph) (now part) u ⌝ }
-    requires { ⌜ Read (now graph) (now part) u ⌝ }
-    ensures { λ _. ⌜ Grown (now (graph .entry)) (now (marks .entry)) (now (part .entry)) (now (part .exit)) ⌝ }
-    ensures { λ _. ⌜ Met (now (part .exit)) u ⌝ }
+    requires { ⌜ 0 < spare ⌝ }
+    ensures { λ r. ⌜ (length (now (part .exit)) ≡ 256) × (r ≤ spare) ⌝ }
+    ensures { λ r. ⌜ ((S : Sheet) (v k n : ℕ) (t : List ℕ) → u < n → n ≤ v → Walking S (now (graph .entry)) (marked (now (marks .entry))) v k t (now (part .entry)) spare
+        → (o : List ℕ) × Ended S (now (graph .entry)) (marked (now (marks .entry))) v k (look S (marked (now (marks .entry))) n t u) o (now (part .exit)) r) ⌝ }
 {
     let i = u as usize;
     if part[i] != 0 {
-        return;
+        return spare;
     }
     if marks[i] == 0 {
         part[i] = 2;
-        return;
+        return spare - 1;
     }
     part[i] = 1;
-    visit_operands(graph, marks, part, u, 0);
+    visit_operands(graph, marks, part, u, 0, spare)
 }
 
-// Meets the operands of the member u from the jth on.
-fn visit_operands(graph: &Graph, marks: &[u8; 256], part: &mut [u8; 256], u: u32, j: u32)
+// Meets the operands of the member u from the jth on, until no leaf is spare. How many are then.
+fn visit_operands(
+    graph: &Graph,
+    marks: &[u8; 256],
+    part: &mut [u8; 256],
+    u: u32,
+    j: u32,
+    spare: u32,
+) -> u32
     requires { ⌜ Lent (now graph) (now part) u ⌝ }
-    requires { ⌜ Member (now part) u ⌝ }
-    ensures { λ _. ⌜ Grown (now (graph .entry)) (now (marks .entry)) (now (part .entry)) (now (part .exit)) ⌝ }
-    ensures { λ _. ⌜ ((i : ℕ) → j ≤ i → i < countIn (now (graph .entry)) u → Met (now (part .exit)) (operandIn (now (graph .entry)) u i)) ⌝ }
+    requires { ⌜ 0 < spare ⌝ }
+    ensures { λ r. ⌜ (length (now (part .exit)) ≡ 256) × (r ≤ spare) ⌝ }
+    ensures { λ r. ⌜ ((S : Sheet) (v k n : ℕ) (t : List ℕ) → u ≤ n → n ≤ v → Walking S (now (graph .entry)) (marked (now (marks .entry))) v k t (now (part .entry)) spare
+        → (o : List ℕ) × Ended S (now (graph .entry)) (marked (now (marks .entry))) v k (lookAll S (marked (now (marks .entry))) n t (drop j (node S u .operands))) o (now (part .exit)) r) ⌝ }
 {
     if count_in(graph, u) <= j {
-        return;
+        return spare;
     }
     let y = operand_in(graph, u, j);
-    visit(graph, marks, part, y);
-    visit_operands(graph, marks, part, u, j + 1);
+    let left = visit(graph, marks, part, y, spare);
+    if left == 0 {
+        return left;
+    }
+    visit_operands(graph, marks, part, u, j + 1, left)
 }
 
-// Finds the cone of v inside the marks, and its leaves.
-fn walk(graph: &Graph, marks: &[u8; 256], part: &mut [u8; 256], v: u32)
+// Finds the cone of v inside the marks, and its leaves, until no leaf is spare. How many are then.
+fn walk(graph: &Graph, marks: &[u8; 256], part: &mut [u8; 256], v: u32, spare: u32) -> u32
     requires { ⌜ Falling (now graph) ⌝ }
     requires { ⌜ v < 256 ⌝ }
-    ensures { λ _. ⌜ Walked (now (graph .entry)) (now (marks .entry)) v (now (part .exit)) ⌝ }
+    requires { ⌜ 0 < spare ⌝ }
+    ensures { λ r. ⌜ r ≤ spare ⌝ }
+    ensures { λ r. ⌜ ((S : Sheet) (k : ℕ) → Question S (now (graph .entry)) (now (marks .entry)) v → spare ≡ k + 1
+        → (o : List ℕ) × Ended S (now (graph .entry)) (marked (now (marks .entry))) v k (looks S (marked (now (marks .entry))) v) o (now (part .exit)) r) ⌝ }
 {
     *part = [0; 256];
     part[v as usize] = 1;
-    visit_operands(graph, marks, part, v, 0);
+    visit_operands(graph, marks, part, v, 0, spare)
 }
 
-// Lists the leaves below v, ascending, and counts them: at most k, or k + 1 where there are more.
-fn leaves(part: &[u8; 256], cut: &mut [u32; 8], v: u32, k: u32) -> u32
-    requires { ⌜ v < 256 ⌝ }
-    requires { ⌜ k < 8 ⌝ }
-    ensures { λ r. ⌜ Listed (now (part .entry)) v k r (now (cut .exit)) ⌝ }
+// Lists the leaves below v, ascending, where there are `count`.
+pub fn leaves(part: &[u8; 256], cut: &mut [u32; 8], v: u32, count: u32)
+    requires { ⌜ (v < 256) × (count ≤ 8) ⌝ }
+    ensures { λ _. ⌜ (length (leavesBelow (now (part .entry)) v) ≡ count → take count (now (cut .exit)) ≡ leavesBelow (now (part .entry)) v) ⌝ }
 {
     *cut = [0; 8];
     let mut n: u32 = 0;
     let mut i: u32 = 0;
     while i < v {
+        if n == count {
+            return;
+        }
         if part[i as usize] == 2 {
-            if n == k {
-                return k + 1;
-            }
             cut[n as usize] = i;
             n += 1;
         }
         i += 1;
     }
-    n
 }
 
 // The test whether the cut of the cone of v inside the marks fits: the number of its leaves, which `cut` then lists,
@@ -86,6 +103,11 @@ pub fn cut_fits(graph: &Graph, marks: &[u8; 256], cut: &mut [u32; 8], v: u32, k:
     ensures { λ r. ⌜ ((S : Sheet) → Question S (now (graph .entry)) (now (marks .entry)) v → FitTest S (marked (now (marks .entry))) v k r (now (cut .exit))) ⌝ }
 {
     let mut part = [0u8; 256];
-    walk(graph, marks, &mut part, v);
-    leaves(&part, cut, v, k)
+    let over = k + 1;
+    let spare = walk(graph, marks, &mut part, v, over);
+    let count = over - spare;
+    if count <= k {
+        leaves(&part, cut, v, count);
+    }
+    count
 }

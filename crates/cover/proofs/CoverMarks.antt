@@ -13,19 +13,11 @@ use borrow.Author.Tests.{eqb-true, eqb-false}
 use Rattle.maps.specs.Limits.{leavesRange}
 use Rattle.maps.specs.Lists.{All, mem, below}
 use Rattle.maps.proofs.Over.{length-over, getD-over}
-use Rattle.maps.proofs.Member.{All-ids, All-get}
+use Rattle.maps.proofs.Member.{All-ids, All-get, mem-append}
 use Rattle.bound.specs.Lookup.{Beside, countOf, leafOf}
 use Rattle.level.proofs.CutRows.{count-beside, leaf-beside}
 use Rattle.cover.specs.Cover.{Rows, rowOf}
 use Rattle.cover.specs.Covering.{MarkedAll, Written}
-
-pub mem-append : (u : ℕ) (xs ys : List ℕ) → mem u (xs ++ ys) ≡ (mem u xs || mem u ys)
-mem-append u [] ys = refl
-mem-append u (x ∷ xs) ys = go (eqb u x) (mem-append u xs ys)
-  where
-    go : (b : Bool) → mem u (xs ++ ys) ≡ (mem u xs || mem u ys) → (b || mem u (xs ++ ys)) ≡ ((b || mem u xs) || mem u ys)
-    go true e = refl
-    go false e = e
 
 cond-or : (a b : Bool) (x : ℕ) → cond b 1 (cond a 1 x) ≡ cond (a || b) 1 x
 cond-or true true x = refl

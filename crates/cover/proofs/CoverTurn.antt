@@ -16,7 +16,7 @@ use Rattle.maps.specs.Cut.{logicNode}
 use Rattle.maps.specs.Cover.{chosenCut, needs, usedNode, usedBelow, used}
 use Rattle.maps.specs.Plan.{leavesOf}
 use Rattle.maps.proofs.Enumerate.{clash}
-use Rattle.maps.proofs.Member.{All-at, All-map, mem-out}
+use Rattle.maps.proofs.Member.{All-at, All-map, mem-out, mem-append}
 use Rattle.maps.proofs.Planned.{operands-below}
 use Rattle.rows.specs.Table.{kindAt, countIn, operandIn, Tabled}
 use Rattle.rows.specs.declared.Header as R
@@ -25,7 +25,7 @@ use Rattle.bound.specs.Lookup.{labelsIn, countOf, leafOf}
 use Rattle.level.proofs.CutRows.{count-beside, count-blank}
 use Rattle.cover.specs.Cover.{Covered, Rows, operandsOf, rowOf}
 use Rattle.cover.specs.Covering.{usedIn, MarkedAll, Written, Laid, CoverFrom}
-use Rattle.cover.proofs.CoverMarks.{mem-append, over-is, marked-append, row-beside}
+use Rattle.cover.proofs.CoverMarks.{over-is, marked-append, row-beside}
 use Rattle.cover.proofs.CoverCut.{chosen-low}
 
 or-false : (a b c : Bool) → (a || (b || c)) ≡ false → c ≡ false

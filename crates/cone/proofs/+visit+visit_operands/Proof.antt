@@ -2,12 +2,13 @@
 use borrow.Author.Needs.{needs}
 use native.Mathlib.Omega.{arith}
 use Prim.Native.Nat.{ℕ, _+_, _*_, _-_, _<_}
-use mathlib.Core.Path.{sym, subst, _∙_}
-use lib.ListN.{set, length-set}
-use lib.Seq.{getD-set-same}
+use mathlib.Core.Path.{_≡_, _∙_}
+use mathlib.Core.Bool.{true}
+use lib.ListN.{length-set}
+use borrow.Author.Tests.{eq-eqb, ne-eqb}
 use Rattle.rows.specs.Table.{countIn}
-use Rattle.cone.specs.Part.{Met}
-use Rattle.cone.proofs.Growth.{in-part, member-still, grown-none, grown-leaf, grown-member, grown-operands}
+use Rattle.cone.specs.Walk.{marked}
+use Rattle.cone.proofs.Visits.{met-visit, leaf-visit, member-begun, member-visit, all-met, none-left, stop-here, go-on}
 use borrow.Fn.Kinds.{In}
 use borrow.Fn.PlainCycle.{Measures, is, falls, and}
 use Rattle.cone.proofs.visit.Reads as visit
@@ -34,120 +35,86 @@ abbrev visit-below : ℕ → In 3 visit-kinds.ps
 visit-below t = and 3 visit-kinds.ps (falls 3 visit-kinds.ps _<_ μ-visit t) visit.Pre
 
 abbrev visit-operands-at : ℕ → In 3 visit-operands-kinds.ps
-visit-operands-at t =
-    and
-    3
-    visit-operands-kinds.ps
-    (is 3 visit-operands-kinds.ps μ-visit-operands t)
-    visit-operands.Pre
+visit-operands-at t = and 3 visit-operands-kinds.ps (is 3 visit-operands-kinds.ps μ-visit-operands t) visit-operands.Pre
 
 abbrev visit-operands-below : ℕ → In 3 visit-operands-kinds.ps
-visit-operands-below t =
-    and
-    3
-    visit-operands-kinds.ps
-    (falls 3 visit-operands-kinds.ps _<_ μ-visit-operands t)
-    visit-operands.Pre
+visit-operands-below t = and 3 visit-operands-kinds.ps (falls 3 visit-operands-kinds.ps _<_ μ-visit-operands t) visit-operands.Pre
 
-visit-returns :
-    (t : ℕ) →
-    visit-lts.Need-returns (visit-operands-below t, visit-operands.Post) (visit-at t) visit.Post
-visit-returns t c = (grown-none _ _ _, c .if1 .taken)
+-- what each of the two knows of the functions that it calls
+abbrev visit-calls : ℕ → visit-lts.Claims
+visit-calls t = (visit-operands-below t, visit-operands.Post)
 
-visit-returns-2 :
-    (t : ℕ) →
-    visit-lts.Need-returns-2 (visit-operands-below t, visit-operands.Post) (visit-at t) visit.Post
-visit-returns-2 t c =
-    let s = c .before .before .before .before in
-    let p = s .args .part .now in
-    let u = s .args .u in
+abbrev visit-operands-calls : ℕ → visit-operands-lts.Claims
+visit-operands-calls t =
+    (count-in-reads.Asked, count-in-reads.Learnt, operand-in-reads.Asked, operand-in-reads.Learnt, visit-below t, visit.Post, visit-operands-below t, visit-operands.Post)
+
+visit-returns : (t : ℕ) → visit-lts.Need-returns (visit-calls t) (visit-at t) visit.Post
+visit-returns t c =
+    let s = c .before .before in
     let lent = s .pre .1 .0 in (
-      grown-leaf (s .args .graph .now) (s .args .marks .now) p u lent (s .pre .1 .1) (c .before .before .if1 .left) (c .if2 .taken),
-      λ z. omega (arith, getD-set-same p u 2 0 (in-part lent)),
+      (lent .wide, omega arith),
+      λ S v k n o l h w.
+          (_, met-visit S _ _ v k o (s .args .part .now) (s .args .spare) (s .args .u) w (s .pre .1 .1) lent (omega arith) n l (c .if1 .taken)),
     )
 
-visit-visit-operands-requires : (t : ℕ) → visit-lts.Need-visit-operands-requires (
-  visit-operands-below t,
-  visit-operands.Post,
-) (visit-at t) visit.Post
-visit-visit-operands-requires t c κs =
-    let s = c .before .before .before .before .before in
-    let p = s .args .part .now in
-    let u = s .args .u in
+visit-returns-2 : (t : ℕ) → visit-lts.Need-returns-2 (visit-calls t) (visit-at t) visit.Post
+visit-returns-2 t c =
+    let s = c .before .before .before .before in
     let lent = s .pre .1 .0 in (
-      omega arith,
-      (
-        record { falling = lent .falling; node = lent .node; wide = length-set p u 1 ∙ lent .wide },
-        getD-set-same p u 1 0 (in-part lent),
+      (length-set (s .args .part .now) (s .args .u) 2 ∙ lent .wide, omega arith),
+      λ S v k n o l h w. (
+        _,
+        leaf-visit S _ _ v k o (s .args .part .now) (s .args .spare) (s .args .u) w (s .pre .1 .1) lent (omega arith) n l (c .before .before .if1 .left)
+            (rw (eq-eqb _ _ (c .if2 .taken))),
       ),
     )
 
-visit-returns-3 :
-    (t : ℕ) →
-    visit-lts.Need-returns-3 (visit-operands-below t, visit-operands.Post) (visit-at t) visit.Post
-visit-returns-3 t c =
-    let s = c .before .before .before .before .before .before in
-    let p = s .args .part .now in
-    let u = s .args .u in
-    let lent = s .pre .1 .0 in
-    let new = c .before .before .before .before .if1 .left in
-    let mark = c .before .before .if2 .left in
-    let e = c .visit-operands in
-    let p′ = e .last .1 .1 .0 in
-    let g = e .ensures .0 in (
-      grown-member (s .args .graph .now) (s .args .marks .now) p u lent (s .pre .1 .1) new p′ mark g (e .ensures .1),
-      λ z. omega (arith, member-still (set p u 1) p′ (g .kept) u (getD-set-same p u 1 0 (in-part lent))),
+visit-visit-operands-requires : (t : ℕ) → visit-lts.Need-visit-operands-requires (visit-calls t) (visit-at t) visit.Post
+visit-visit-operands-requires t c κs =
+    let s = c .before .before .before .before .before in
+    let lent = s .pre .1 .0 in (
+      omega arith,
+      (record { falling = lent .falling; node = lent .node; wide = length-set (s .args .part .now) (s .args .u) 1 ∙ lent .wide }, s .pre .1 .1),
     )
 
-visit-operands-count-in-requires : (t : ℕ) → visit-operands-lts.Need-count-in-requires (
-  count-in-reads.Asked,
-  count-in-reads.Learnt,
-  operand-in-reads.Asked,
-  operand-in-reads.Learnt,
-  visit-below t,
-  visit.Post,
-  visit-operands-below t,
-  visit-operands.Post,
-) (visit-operands-at t) visit-operands.Post
+visit-returns-3 : (t : ℕ) → visit-lts.Need-returns-3 (visit-calls t) (visit-at t) visit.Post
+visit-returns-3 t c =
+    let s = c .before .before .before .before .before .before in
+    let lent = s .pre .1 .0 in
+    let e = c .visit-operands in
+    let new = c .before .before .before .before .if1 .left in
+    let mark = c .before .before .if2 .left in (
+      e .ensures .0,
+      λ S v k n o l h w.
+          let part = s .args .part .now in
+          let m : marked (s .args .marks .now) (s .args .u) ≡ true = rw (ne-eqb _ _ mark) in
+          let begun = member-begun S (s .args .graph .now) _ v k o part (s .args .spare) (s .args .u) w (s .pre .1 .1) lent (omega arith) n l new m in
+          let r = e .ensures .1 S v k (n - 1) _ (omega arith) (omega arith) begun in
+          (r .0, member-visit S _ _ v k o part (s .args .spare) (s .args .u) w (s .pre .1 .1) lent (omega arith) n l new m (r .0) (e .last .1 .1 .0) (e .result) (r .1)),
+    )
+
+visit-operands-count-in-requires : (t : ℕ) → visit-operands-lts.Need-count-in-requires (visit-operands-calls t) (visit-operands-at t) visit-operands.Post
 visit-operands-count-in-requires t c κs = c .pre .1 .0 .node
 
-visit-operands-returns : (t : ℕ) → visit-operands-lts.Need-returns (
-  count-in-reads.Asked,
-  count-in-reads.Learnt,
-  operand-in-reads.Asked,
-  operand-in-reads.Learnt,
-  visit-below t,
-  visit.Post,
-  visit-operands-below t,
-  visit-operands.Post,
-) (visit-operands-at t) visit-operands.Post
-visit-operands-returns t c = (grown-none _ _ _, λ i l h. absurd (omega (arith, c .if1 .taken, c .before .count-in .ensures)))
+visit-operands-returns : (t : ℕ) → visit-operands-lts.Need-returns (visit-operands-calls t) (visit-operands-at t) visit-operands.Post
+visit-operands-returns t c =
+    let s = c .before .before in
+    let lent = s .pre .1 .0 in (
+      (lent .wide, omega arith),
+      λ S v k n o l h w. (
+        _,
+        none-left S _ _ v k (s .args .u) (s .args .j) n (lent .node) o (s .args .part .now) (s .args .spare) w (s .pre .1 .1)
+            (omega (arith, c .if1 .taken, c .before .count-in .ensures)),
+      ),
+    )
 
-visit-operands-operand-in-requires : (t : ℕ) → visit-operands-lts.Need-operand-in-requires (
-  count-in-reads.Asked,
-  count-in-reads.Learnt,
-  operand-in-reads.Asked,
-  operand-in-reads.Learnt,
-  visit-below t,
-  visit.Post,
-  visit-operands-below t,
-  visit-operands.Post,
-) (visit-operands-at t) visit-operands.Post
+visit-operands-operand-in-requires : (t : ℕ) → visit-operands-lts.Need-operand-in-requires (visit-operands-calls t) (visit-operands-at t) visit-operands.Post
 visit-operands-operand-in-requires t c κs =
     let s = c .before .before in
     let lent = s .pre .1 .0 in
     (lent .node, omega (arith, lent .falling .few (s .args .u) (lent .node), c .before .count-in .ensures, c .if1 .left))
 
-visit-operands-visit-requires : (t : ℕ) → visit-operands-lts.Need-visit-requires (
-  count-in-reads.Asked,
-  count-in-reads.Learnt,
-  operand-in-reads.Asked,
-  operand-in-reads.Learnt,
-  visit-below t,
-  visit.Post,
-  visit-operands-below t,
-  visit-operands.Post,
-) (visit-operands-at t) visit-operands.Post
+visit-operands-visit-requires : (t : ℕ) → visit-operands-lts.Need-visit-requires (visit-operands-calls t) (visit-operands-at t) visit-operands.Post
 visit-operands-visit-requires t c κs =
     let s = c .before .before .before .before in
     let u = s .args .u in
@@ -156,101 +123,80 @@ visit-operands-visit-requires t c κs =
     let here : j < countIn (s .args .graph .now) u = omega (arith, c .before .before .if1 .left, c .before .before .before .count-in .ensures) in
     let few = lent .falling .few u (lent .node) in
     let fall = lent .falling .falls u j (lent .node) here in
-    let y = c .before .operand-in .ensures in (
-      omega arith,
-      (
-        record { falling = lent .falling; node = omega arith; wide = lent .wide },
-        record { reader = u; place = j; member = s .pre .1 .1; within = here; operand = sym y },
-      ),
-    )
+    let y = c .before .operand-in .ensures in
+    (omega arith, (record { falling = lent .falling; node = omega arith; wide = lent .wide }, s .pre .1 .1))
 
-visit-operands-add-visit-operands : (t : ℕ) → visit-operands-lts.Need-add-visit-operands (
-  count-in-reads.Asked,
-  count-in-reads.Learnt,
-  operand-in-reads.Asked,
-  operand-in-reads.Learnt,
-  visit-below t,
-  visit.Post,
-  visit-operands-below t,
-  visit-operands.Post,
-) (visit-operands-at t) visit-operands.Post
-visit-operands-add-visit-operands t c =
-    let s = c .before .before .before .before .before .before in
-    let lent = s .pre .1 .0 in
-    omega (arith, lent .falling .few (s .args .u) (lent .node), c .before .before .before .before .before .count-in .ensures)
-
-visit-operands-visit-operands-requires : (t : ℕ) → visit-operands-lts.Need-visit-operands-requires (
-  count-in-reads.Asked,
-  count-in-reads.Learnt,
-  operand-in-reads.Asked,
-  operand-in-reads.Learnt,
-  visit-below t,
-  visit.Post,
-  visit-operands-below t,
-  visit-operands.Post,
-) (visit-operands-at t) visit-operands.Post
-visit-operands-visit-operands-requires t c κs =
+visit-operands-returns-2 : (t : ℕ) → visit-operands-lts.Need-returns-2 (visit-operands-calls t) (visit-operands-at t) visit-operands.Post
+visit-operands-returns-2 t c =
     let s = c .before .before .before .before .before .before in
     let u = s .args .u in
+    let j = s .args .j in
     let lent = s .pre .1 .0 in
-    let e = c .before .visit in
-    let g = e .ensures .0 in (
-      omega (arith, lent .falling .few u (lent .node), c .before .before .before .before .before .count-in .ensures),
-      (
-        record { falling = lent .falling; node = lent .node; wide = g .wide ∙ lent .wide },
-        member-still (s .args .part .now) (e .last .1 .1 .0) (g .kept) u (s .pre .1 .1),
-      ),
+    let here : j < countIn (s .args .graph .now) u =
+    omega (arith, c .before .before .before .before .if1 .left, c .before .before .before .before .before .count-in .ensures) in
+    let fall = lent .falling .falls u j (lent .node) here in
+    let y = c .before .before .before .operand-in .ensures in
+    let e = c .before .visit in (
+      e .ensures .0,
+      λ S v k n o l h w.
+          let r = e .ensures .1 S v k n o (omega arith) h w in
+          (r .0, stop-here S _ _ v k u j n (lent .node) o (w .tabled) here _ y (r .0) (e .last .1 .1 .0) (e .result) (c .if2 .taken) (r .1)),
     )
 
-visit-operands-returns-2 : (t : ℕ) → visit-operands-lts.Need-returns-2 (
-  count-in-reads.Asked,
-  count-in-reads.Learnt,
-  operand-in-reads.Asked,
-  operand-in-reads.Learnt,
-  visit-below t,
-  visit.Post,
-  visit-operands-below t,
-  visit-operands.Post,
-) (visit-operands-at t) visit-operands.Post
-visit-operands-returns-2 t c =
+visit-operands-add-visit-operands : (t : ℕ) → visit-operands-lts.Need-add-visit-operands (visit-operands-calls t) (visit-operands-at t) visit-operands.Post
+visit-operands-add-visit-operands t c =
     let s = c .before .before .before .before .before .before .before in
-    let graph = s .args .graph .now in
-    let e = c .before .before .visit in
-    let f = c .visit-operands in
-    grown-operands graph (s .args .marks .now) (s .args .part .now) (e .last .1 .1 .0) (f .last .1 .1 .0) (s .args .u) (s .args .j)
-    (e .ensures .0) (subst (λ (y : ℕ). Met (e .last .1 .1 .0) y) (c .before .before .before .before .operand-in .ensures) (e .ensures .1)) (f .ensures .0) (f .ensures .1)
+    let lent = s .pre .1 .0 in
+    omega (arith, lent .falling .few (s .args .u) (lent .node), c .before .before .before .before .before .before .count-in .ensures)
+
+visit-operands-visit-operands-requires : (t : ℕ) → visit-operands-lts.Need-visit-operands-requires (visit-operands-calls t) (visit-operands-at t) visit-operands.Post
+visit-operands-visit-operands-requires t c κs =
+    let s = c .before .before .before .before .before .before .before in
+    let lent = s .pre .1 .0 in
+    let e = c .before .before .visit in (
+      omega (arith, lent .falling .few (s .args .u) (lent .node), c .before .before .before .before .before .before .count-in .ensures),
+      (record { falling = lent .falling; node = lent .node; wide = e .ensures .0 .0 }, omega (arith, c .before .if2 .left)),
+    )
+
+visit-operands-returns-3 : (t : ℕ) → visit-operands-lts.Need-returns-3 (visit-operands-calls t) (visit-operands-at t) visit-operands.Post
+visit-operands-returns-3 t c =
+    let s = c .before .before .before .before .before .before .before .before in
+    let u = s .args .u in
+    let j = s .args .j in
+    let lent = s .pre .1 .0 in
+    let here : j < countIn (s .args .graph .now) u =
+    omega (arith, c .before .before .before .before .before .before .if1 .left, c .before .before .before .before .before .before .before .count-in .ensures) in
+    let fall = lent .falling .falls u j (lent .node) here in
+    let y = c .before .before .before .before .before .operand-in .ensures in
+    let e = c .before .before .before .visit in
+    let f = c .visit-operands in (
+      (f .ensures .0 .0, omega (arith, f .ensures .0 .1, e .ensures .0 .1)),
+      λ S v k n o l h w.
+          let r = e .ensures .1 S v k n o (omega arith) h w in
+          let m = all-met S _ _ v k _ (r .0) _ (e .result) (r .1) (omega (arith, c .before .before .if2 .left)) in
+          let r′ = f .ensures .1 S v k n _ l h m in
+          (r′ .0, go-on S _ _ v k u j n (lent .node) o (w .tabled) here _ y (r′ .0) (f .last .1 .1 .0) (f .result) (r′ .1)),
+    )
 
 pub +visit+visit-operands-spec : {M : Type 1} → statement M
-+visit+visit-operands-spec = close μ-visit μ-visit-operands (λ t. visit-lts.spec (
-  visit-operands-below t,
-  visit-operands.Post,
-)
-    (visit-at t)
-    visit.Post
++visit+visit-operands-spec =
+    close μ-visit μ-visit-operands
+    (λ t. visit-lts.spec (visit-calls t) (visit-at t) visit.Post
     (λ c. search needs)
     (visit-returns t)
+    (λ c. search needs)
     (λ c. search needs)
     (λ c. search needs)
     (visit-returns-2 t)
     (λ c. search needs)
     (visit-visit-operands-requires t)
     (visit-returns-3 t))
-    λ t. visit-operands-lts.spec (
-      count-in-reads.Asked,
-      count-in-reads.Learnt,
-      operand-in-reads.Asked,
-      operand-in-reads.Learnt,
-      visit-below t,
-      visit.Post,
-      visit-operands-below t,
-      visit-operands.Post,
-    )
-    (visit-operands-at t)
-    visit-operands.Post
+    (λ t. visit-operands-lts.spec (visit-operands-calls t) (visit-operands-at t) visit-operands.Post
     (visit-operands-count-in-requires t)
     (visit-operands-returns t)
     (visit-operands-operand-in-requires t)
     (visit-operands-visit-requires t)
+    (visit-operands-returns-2 t)
     (visit-operands-add-visit-operands t)
     (visit-operands-visit-operands-requires t)
-    (visit-operands-returns-2 t)
+    (visit-operands-returns-3 t))

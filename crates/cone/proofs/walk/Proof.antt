@@ -1,18 +1,21 @@
 -- `cone::walk` meets its contract.
 use borrow.Author.Needs.{needs}
-use mathlib.Core.Path.{refl}
-use lib.ListN.{replicate}
-use Rattle.maps.proofs.Member.{zeros-at}
-use Rattle.cone.proofs.Growth.{walked-all}
+use native.Mathlib.Omega.{arith}
+use Rattle.cone.specs.Walk.{marked}
+use Rattle.cone.specs.Looks.{looks}
+use Rattle.cone.proofs.Visits.{walk-begun}
 use Rattle.cone.proofs.walk.Statement.{statement}
 use Rattle.cone.proofs.walk.Tie as tie
 
 returns : tie.Need-returns
+unfolding looks
 returns c =
     let s = c .before .before .before in
-    let e = c .visit-operands in
-    walked-all (s .args .graph .now) (s .args .marks .now) (replicate 256 0) (e .last .1 .1 .0) (s .args .v) refl (zeros-at 256)
-    (s .pre .1) (e .ensures .0) (e .ensures .1)
+    let f = c .visit-operands in (
+      f .ensures .0 .1,
+      λ S k asked e. f .ensures .1 S (s .args .v) k (s .args .v) _ (omega arith) (omega arith)
+          (walk-begun S (s .args .graph .now) (marked (s .args .marks .now)) (s .args .v) k (s .args .spare) (asked .tabled) (asked .within) (s .pre .1 .0) e),
+    )
 
 pub walk-spec : {M : Type 1} → statement M
 walk-spec = tie.close (tie.spec (λ c. search needs) (λ c κs. search needs) returns)
