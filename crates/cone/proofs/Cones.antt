@@ -19,7 +19,7 @@ use Rattle.rows.specs.Table.{Falling}
 use Rattle.cone.specs.Walk.{marked, ConeInside, Question, FitTest}
 use Rattle.cone.specs.Looks.{looks, leavesMet, Ends, all, wide}
 use Rattle.cone.specs.Part.{partOf, Ended, leavesBelow}
-use Rattle.cone.proofs.LeafLaws.{met-grows}
+use Rattle.cone.proofs.LeafLaws.{passing-few, met-grows}
 use Rattle.cone.proofs.Visits.{all-met}
 use Rattle.cone.proofs.LookLaws.{members, root-member, marked-member, member-is, looks-low, member-low, looks-closed, looks-read}
 
@@ -170,12 +170,9 @@ module _ (S : Sheet) (g marks : List ℕ) (v : ℕ) (falling : Falling g) (low :
   abbrev Shown : (part : List ℕ) → Type 0
   Shown part = (u : ℕ) → u < 256 → getD part u 0 ≡ partOf (marked marks) v looked u
 
-  -- So `part` has the leaves of the cut, all below v.
-  cut-listed : (part : List ℕ) → Shown part → cut S cone ≡ leavesBelow part v
-  unfolding leavesBelow
-  cut-listed part h =
-      cut-met ∙ keep-end (λ u. mem u looked && not (marked marks u)) v past (size S) (omega (arith, asked .within))
-      ∙ keep-same (λ u. mem u looked && not (marked marks u)) (λ u. eqb (getD part u 0) 2) v two
+  -- the cut's leaves are all below v
+  cut-low : cut S cone ≡ keep (λ u. mem u looked && not (marked marks u)) (below v)
+  cut-low = cut-met ∙ keep-end (λ u. mem u looked && not (marked marks u)) v past (size S) (omega (arith, asked .within))
     where
       past : (u : ℕ) → v ≤ u → (mem u looked && not (marked marks u)) ≡ false
       past u l = go (mem u looked) refl
@@ -184,6 +181,11 @@ module _ (S : Sheet) (g marks : List ℕ) (v : ℕ) (falling : Falling g) (low :
           go true e = absurd (omega (arith, looks-low S (marked marks) v reads-fall u e))
           go false e = refl
 
+  -- so `part` has them
+  cut-listed : (part : List ℕ) → Shown part → cut S cone ≡ leavesBelow part v
+  unfolding leavesBelow
+  cut-listed part h = cut-low ∙ keep-same (λ u. mem u looked && not (marked marks u)) (λ u. eqb (getD part u 0) 2) v two
+    where
       two : (u : ℕ) → u < v → (mem u looked && not (marked marks u)) ≡ eqb (getD part u 0) 2
       two u l = rw (h u (omega arith), ne-eqb u v (λ q. omega arith)) (go (mem u looked) (marked marks u))
         where
@@ -203,6 +205,22 @@ module _ (S : Sheet) (g marks : List ℕ) (v : ℕ) (falling : Falling g) (low :
         go : Ends S (marked marks) k looked o → FitTest S (marked marks) v k (k + 1) list
         go (all e m) = absurd (omega (arith, h .walking .spared))
         go (wide b u rest p q x y) = many (omega (arith, cut-count, met-grows S (marked marks) o rest, ap (leavesMet S (marked marks)) q))
+
+    -- A cut has fewer than v + 1 leaves, so a walk that may meet v of them looks at all.
+    pub walked-all : v ≤ k → o ≡ looks S (marked marks) v
+    walked-all l = go (h .ends)
+      where
+        go : Ends S (marked marks) k looked o → o ≡ looked
+        go (all e m) = e
+        go (wide b u rest p q x y) =
+            absurd (omega (
+              arith,
+              met-grows S (marked marks) o rest,
+              ap (leavesMet S (marked marks)) q,
+              cut-count,
+              ap length cut-low,
+              passing-few (λ u. mem u looked && not (marked marks u)) v,
+            ))
 
     -- It has not: all is looked at, and `part` has the leaves of the cut.
     module _ (spares : 0 < spare) where

@@ -16,7 +16,7 @@ use Rattle.maps.proofs.Member.{mem-append, keep-append}
 use Rattle.cone.specs.Looks.{leavesMet}
 
 -- how many numbers below n pass a test
-abbrev passing : (ℕ → Bool) → ℕ → ℕ
+abbrev pub passing : (ℕ → Bool) → ℕ → ℕ
 passing p n = length (keep p (below n))
 
 passing-turn : (p : ℕ → Bool) (n : ℕ) → passing p (suc n) ≡ passing p n + cond (p n) 1 0
@@ -25,6 +25,14 @@ passing-turn p n = ap length (keep-append p (below n) (n ∷ [])) ∙ length-app
     go : (b : Bool) → passing p n + length (cond b (n ∷ []) []) ≡ passing p n + cond b 1 0
     go true = refl
     go false = refl
+
+pub passing-few : (p : ℕ → Bool) (n : ℕ) → passing p n ≤ n
+passing-few p zero = omega arith
+passing-few p (suc n) = rw (passing-turn p n) (omega (arith, passing-few p n, go (p n)))
+  where
+    go : (b : Bool) → cond b 1 0 ≤ 1
+    go true = omega arith
+    go false = omega arith
 
 passing-more : (p q : ℕ → Bool) → ((u : ℕ) → p u ≡ true → q u ≡ true) → (n : ℕ) → passing p n ≤ passing q n
 passing-more p q h zero = omega arith

@@ -37,12 +37,16 @@ module _ (S : Sheet) (g : List ℕ) (marked : ℕ → Bool) (v k : ℕ) where
   ended w l = record { ends = all refl (not-wide w l); walking = w }
 
   -- where a leaf is spare, the walk has looked at all that it was to
-  pub all-met : (whole t part : List ℕ) (spare : ℕ) → Ended S g marked v k whole t part spare → 0 < spare → Walking S g marked v k whole part spare
-  all-met whole t part spare e l = of (e .ends)
-    where
-      of : Ends S marked k whole t → Walking S g marked v k whole part spare
-      of (all q few) = subst (λ (o : List ℕ). Walking S g marked v k o part spare) q (e .walking)
-      of (wide before u rest q r s m) = absurd (omega (arith, e .walking .spared, l, m))
+  module _ (whole t part : List ℕ) (spare : ℕ) (e : Ended S g marked v k whole t part spare) (l : 0 < spare) where
+    pub met-all : t ≡ whole
+    met-all = of (e .ends)
+      where
+        of : Ends S marked k whole t → t ≡ whole
+        of (all q few) = q
+        of (wide before u rest q r s m) = absurd (omega (arith, e .walking .spared, l, m))
+
+    pub all-met : Walking S g marked v k whole part spare
+    all-met = subst (λ (o : List ℕ). Walking S g marked v k o part spare) met-all (e .walking)
 
   -- the walk begins where v alone is met
   pub walk-begun : (spare : ℕ) → Tabled S g → v < size S → v < 256 → spare ≡ k + 1 → Walking S g marked v k [] (set (replicate 256 0) v 1) spare

@@ -1,4 +1,4 @@
-// A copy of the test whether a cone's cut fits (`cone::cut_fits`) that counts in `looks` the operands it looks at.
+// A copy of the test whether a cone's cut fits (`cone::cut_fits`) that counts in `looked` the operands it looks at.
 ghost use Prim.Native.Nat.{ℕ, _+_, _-_, _<_, _≤_};
 ghost use mathlib.Core.Path.{_≡_};
 ghost use mathlib.Core.Bool.{Bool};
@@ -20,17 +20,17 @@ fn visit(
     graph: &Graph,
     marks: &[u8; 256],
     part: &mut [u8; 256],
-    looks: &mut u32,
+    looked: &mut u32,
     u: u32,
     spare: u32,
 ) -> u32
     requires { ⌜ Lent (now graph) (now part) u ⌝ }
     requires { ⌜ 0 < spare ⌝ }
-    requires { ⌜ inEnd (now looks) (now part) ≤ looksMost ⌝ }
-    ensures { λ r. ⌜ (length (now (part .exit)) ≡ 256) × (r ≤ spare) × (inEnd (now (looks .exit)) (now (part .exit)) ≤ inEnd (now (looks .entry)) (now (part .entry))) ⌝ }
+    requires { ⌜ inEnd (now looked) (now part) ≤ looksMost ⌝ }
+    ensures { λ r. ⌜ (length (now (part .exit)) ≡ 256) × (r ≤ spare) × (inEnd (now (looked .exit)) (now (part .exit)) ≤ inEnd (now (looked .entry)) (now (part .entry))) ⌝ }
     ensures { λ r. ⌜ ((S : Sheet) (v k n : ℕ) (t : List ℕ) → u < n → n ≤ v → Walking S (now (graph .entry)) (marked (now (marks .entry))) v k t (now (part .entry)) spare
-        → now (looks .entry) ≡ length t
-        → (o : List ℕ) × Ended S (now (graph .entry)) (marked (now (marks .entry))) v k (look S (marked (now (marks .entry))) n t u) o (now (part .exit)) r × (now (looks .exit) ≡ length o)) ⌝ }
+        → now (looked .entry) ≡ length t + 1
+        → (o : List ℕ) × Ended S (now (graph .entry)) (marked (now (marks .entry))) v k (look S (marked (now (marks .entry))) n t u) o (now (part .exit)) r × (now (looked .exit) ≡ length o)) ⌝ }
 {
     let i = u as usize;
     if part[i] != 0 {
@@ -41,43 +41,43 @@ fn visit(
         return spare - 1;
     }
     part[i] = 1;
-    visit_operands(graph, marks, part, looks, u, 0, spare)
+    visit_operands(graph, marks, part, looked, u, 0, spare)
 }
 
 fn visit_operands(
     graph: &Graph,
     marks: &[u8; 256],
     part: &mut [u8; 256],
-    looks: &mut u32,
+    looked: &mut u32,
     u: u32,
     j: u32,
     spare: u32,
 ) -> u32
     requires { ⌜ Lent (now graph) (now part) u ⌝ }
     requires { ⌜ 0 < spare ⌝ }
-    requires { ⌜ inEnd (now looks) (now part) + (operandsMost - j) ≤ looksMost ⌝ }
-    ensures { λ r. ⌜ (length (now (part .exit)) ≡ 256) × (r ≤ spare) × (inEnd (now (looks .exit)) (now (part .exit)) ≤ inEnd (now (looks .entry)) (now (part .entry)) + (operandsMost - j)) ⌝ }
+    requires { ⌜ inEnd (now looked) (now part) + (operandsMost - j) ≤ looksMost ⌝ }
+    ensures { λ r. ⌜ (length (now (part .exit)) ≡ 256) × (r ≤ spare) × (inEnd (now (looked .exit)) (now (part .exit)) ≤ inEnd (now (looked .entry)) (now (part .entry)) + (operandsMost - j)) ⌝ }
     ensures { λ r. ⌜ ((S : Sheet) (v k n : ℕ) (t : List ℕ) → u ≤ n → n ≤ v → Walking S (now (graph .entry)) (marked (now (marks .entry))) v k t (now (part .entry)) spare
-        → now (looks .entry) ≡ length t
-        → (o : List ℕ) × Ended S (now (graph .entry)) (marked (now (marks .entry))) v k (lookAll S (marked (now (marks .entry))) n t (drop j (node S u .operands))) o (now (part .exit)) r × (now (looks .exit) ≡ length o)) ⌝ }
+        → now (looked .entry) ≡ length t
+        → (o : List ℕ) × Ended S (now (graph .entry)) (marked (now (marks .entry))) v k (lookAll S (marked (now (marks .entry))) n t (drop j (node S u .operands))) o (now (part .exit)) r × (now (looked .exit) ≡ length o)) ⌝ }
 {
     if count_in(graph, u) <= j {
         return spare;
     }
     let y = operand_in(graph, u, j);
-    *looks += 1;
-    let left = visit(graph, marks, part, looks, y, spare);
+    *looked += 1;
+    let left = visit(graph, marks, part, looked, y, spare);
     if left == 0 {
         return left;
     }
-    visit_operands(graph, marks, part, looks, u, j + 1, left)
+    visit_operands(graph, marks, part, looked, u, j + 1, left)
 }
 
 fn walk(
     graph: &Graph,
     marks: &[u8; 256],
     part: &mut [u8; 256],
-    looks: &mut u32,
+    looked: &mut u32,
     v: u32,
     spare: u32,
 ) -> u32
@@ -86,20 +86,20 @@ fn walk(
     requires { ⌜ 0 < spare ⌝ }
     ensures { λ r. ⌜ r ≤ spare ⌝ }
     ensures { λ r. ⌜ ((S : Sheet) (k : ℕ) → Question S (now (graph .entry)) (now (marks .entry)) v → spare ≡ k + 1
-        → (o : List ℕ) × Ended S (now (graph .entry)) (marked (now (marks .entry))) v k (looks S (marked (now (marks .entry))) v) o (now (part .exit)) r × (now (looks .exit) ≡ length o)) ⌝ }
+        → (o : List ℕ) × Ended S (now (graph .entry)) (marked (now (marks .entry))) v k (looks S (marked (now (marks .entry))) v) o (now (part .exit)) r × (now (looked .exit) ≡ length o)) ⌝ }
 {
     *part = [0; 256];
-    *looks = 0;
+    *looked = 0;
     part[v as usize] = 1;
-    visit_operands(graph, marks, part, looks, v, 0, spare)
+    visit_operands(graph, marks, part, looked, v, 0, spare)
 }
 
-// The test, and in `looks` how many operands it has looked at: those up to and with the one at which leaf k + 1 is met, or all of the cone's.
+// The test, and in `looked` how many operands it has looked at: those up to and with the one at which leaf k + 1 is met, or all of the cone's.
 pub fn cut_fits(
     graph: &Graph,
     marks: &[u8; 256],
     cut: &mut [u32; 8],
-    looks: &mut u32,
+    looked: &mut u32,
     v: u32,
     k: u32,
 ) -> u32
@@ -107,11 +107,11 @@ pub fn cut_fits(
     requires { ⌜ v < 256 ⌝ }
     requires { ⌜ k < 8 ⌝ }
     ensures { λ r. ⌜ ((S : Sheet) → Question S (now (graph .entry)) (now (marks .entry)) v
-        → FitTest S (marked (now (marks .entry))) v k r (now (cut .exit)) × LookedAt S (marked (now (marks .entry))) v k (now (looks .exit))) ⌝ }
+        → FitTest S (marked (now (marks .entry))) v k r (now (cut .exit)) × LookedAt S (marked (now (marks .entry))) v k (now (looked .exit))) ⌝ }
 {
     let mut part = [0u8; 256];
     let over = k + 1;
-    let spare = walk(graph, marks, &mut part, looks, v, over);
+    let spare = walk(graph, marks, &mut part, looked, v, over);
     let count = over - spare;
     if count <= k {
         leaves(&part, cut, v, count);
@@ -126,7 +126,7 @@ pub fn all_looks(graph: &Graph, marks: &[u8; 256], v: u32) -> u32
     ensures { λ r. ⌜ ((S : Sheet) (C : ℕ → Bool) → Question S (now (graph .entry)) (now (marks .entry)) v → ConeInside S (marked (now (marks .entry))) v C → r ≡ operandsOf S C (size S)) ⌝ }
 {
     let mut part = [0u8; 256];
-    let mut looks: u32 = 0;
-    walk(graph, marks, &mut part, &mut looks, v, 257);
-    looks
+    let mut looked: u32 = 0;
+    walk(graph, marks, &mut part, &mut looked, v, 257);
+    looked
 }

@@ -21,11 +21,15 @@ filled-more f l i lt h j below = go (ℕ-discrete j i)
 pub copied : (a b : List ℕ) (i : ℕ) → length b ≡ length a → length a ≤ i → ((j : ℕ) → j < i → cell b j ≡ cell a j) → b ≡ a
 copied a b i len le h = ext-getD 0 b a len (λ j lt. h j (omega arith))
 
-pub zeros-mark : (l : List ℕ) (i : ℕ) → i < length l → cell l i ≡ 0 → zeros (set l i 1) + 1 ≡ zeros l
+-- one 0 less
+pub zeros-set : (l : List ℕ) (i x : ℕ) → i < length l → cell l i ≡ 0 → zeros (set l i (suc x)) + 1 ≡ zeros l
 unfolding zeros
-zeros-mark [] i h e = absurd (not-suc-le-zero h)
-zeros-mark (a ∷ l) zero h e = let z : zero? a ≡ 1 = ap zero? e in omega arith
-zeros-mark (a ∷ l) (suc i) h e = let ih = zeros-mark l i (le-of-suc-le-suc h) e in omega arith
+zeros-set [] i x h e = absurd (not-suc-le-zero h)
+zeros-set (a ∷ l) zero x h e = let z : zero? a ≡ 1 = ap zero? e in omega arith
+zeros-set (a ∷ l) (suc i) x h e = let ih = zeros-set l i x (le-of-suc-le-suc h) e in omega arith
+
+pub zeros-mark : (l : List ℕ) (i : ℕ) → i < length l → cell l i ≡ 0 → zeros (set l i 1) + 1 ≡ zeros l
+zeros-mark l i = zeros-set l i 0
 
 pub ends-map : {A A′ B B′ : Type 0} (b : Bool) → (A → A′) → (B → B′) → Ends b A B → Ends b A′ B′
 ends-map true f g e = f e

@@ -67,6 +67,17 @@ fn wide(random: &mut Random, n: u32) -> Sheet {
     sheet(n, 8, |own| table(random, own, 6, reach, 1))
 }
 
+/// Quick tables over many inputs, and slow ones, the rules, over those. A rule takes a whole step: to share the step of the quick tables below it,
+/// it must have all of them inside its cone, which is large and too wide.
+fn rules(random: &mut Random, n: u32) -> Sheet {
+    let (inputs, quick) = (6 + n / 8, 3 * n / 8);
+    sheet(n, 64, |own| match own {
+        _ if own < inputs => input(),
+        _ if own < inputs + quick => table(random, own, 6, 40, 1),
+        _ => table(random, inputs + quick, 6, quick, 64),
+    })
+}
+
 /// Tables each on the one below, deep in steps.
 fn deep(random: &mut Random, n: u32) -> Sheet {
     sheet(n, 4, |own| {
@@ -208,8 +219,9 @@ fn main() {
         return;
     }
     println!("{:<34}{:>4} {:>4} {:>4}{:>13} {:>9} {:>9}", "sheets", "0", "6", "7", "", "mean", "worst");
-    let kinds: [(&str, fn(&mut Random, u32) -> Sheet); 7] = [
+    let kinds: [(&str, fn(&mut Random, u32) -> Sheet); 8] = [
         ("wide logic", wide),
+        ("wide rules", rules),
         ("deep chains", deep),
         ("boxes with latency", boxes),
         ("differences forward", forward),
