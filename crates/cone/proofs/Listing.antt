@@ -44,12 +44,21 @@ module _ (p : List ℕ) where
       let more = cond (eqb (getD p m 0) 2) (m ∷ []) [] in
       (h .0 ++ more, leaves-turn m ∙ ap (λ (xs : List ℕ). xs ++ more) (h .1) ∙ append-assoc (leavesBelow p i) (h .0) more))
 
-  -- as many leaves are below i as below v: they are all
-  pub leaves-all : (i v : ℕ) → i ≤ v → length (leavesBelow p v) ≡ length (leavesBelow p i) → leavesBelow p i ≡ leavesBelow p v
-  leaves-all i v l e =
+  -- no more leaves are below v than below i: they are the same
+  leaves-same-end : (i v : ℕ) → i ≤ v → length (leavesBelow p v) ≤ length (leavesBelow p i) → leavesBelow p i ≡ leavesBelow p v
+  leaves-same-end i v l e =
       let b = leaves-begin i v l in
       go (b .0) (b .1) (omega (arith, ap length (b .1), length-append (leavesBelow p i) (b .0)))
     where
       go : (s : List ℕ) → leavesBelow p v ≡ leavesBelow p i ++ s → length s ≡ 0 → leavesBelow p i ≡ leavesBelow p v
       go [] q z = sym (append-nil (leavesBelow p i)) ∙ sym q
       go (x ∷ s) q z = absurd (omega arith)
+
+  -- as many are listed as there are below v
+  pub listed-all : (list : List ℕ) (v count n i : ℕ) → i ≤ v → n ≤ length list → take n list ≡ leavesBelow p i → count ≤ n → length (leavesBelow p v) ≡ count
+      → take count list ≡ leavesBelow p v
+  listed-all list v count n i l w e full count-is =
+      let n-is : n ≡ length (leavesBelow p i) = omega (arith, length-take n list, ap length e) in
+      let all = leaves-same-end i v l (omega arith) in
+      let m : count ≡ n = omega (arith, ap length all) in
+      rw m (e ∙ all)

@@ -83,12 +83,12 @@ pub fn leaves(part: &[u8; 256], cut: &mut [u32; 8], v: u32, count: u32)
     let mut n: u32 = 0;
     let mut i: u32 = 0;
     while i < v {
-        if n == count {
-            return;
-        }
         if part[i as usize] == 2 {
             cut[n as usize] = i;
             n += 1;
+            if count <= n {
+                return;
+            }
         }
         i += 1;
     }

@@ -4,7 +4,7 @@ use native.Mathlib.Omega.{arith}
 use Prim.Native.Nat.{ℕ, _+_, _*_, _-_, _<_}
 use mathlib.Core.Path.{_≡_, _∙_}
 use mathlib.Core.Bool.{true}
-use lib.ListN.{length-set}
+use lib.ListN.{getD, length-set}
 use borrow.Author.Tests.{eq-eqb, ne-eqb}
 use Rattle.rows.specs.Table.{countIn}
 use Rattle.cone.specs.Walk.{marked}
@@ -54,18 +54,19 @@ visit-returns t c =
     let lent = s .pre .1 .0 in (
       (lent .wide, omega arith),
       λ S v k n o l h w.
-          (_, met-visit S _ _ v k o (s .args .part .now) (s .args .spare) (s .args .u) w (s .pre .1 .1) lent (omega arith) n l (c .if1 .taken)),
+          (_, met-visit S _ _ v k o (s .args .part .now) (s .args .spare) (s .args .u) w (s .pre .1 .1) lent (omega arith) n l (λ z. omega (arith, c .if1 .taken, z))),
     )
 
 visit-returns-2 : (t : ℕ) → visit-lts.Need-returns-2 (visit-calls t) (visit-at t) visit.Post
 visit-returns-2 t c =
     let s = c .before .before .before .before in
-    let lent = s .pre .1 .0 in (
-      (length-set (s .args .part .now) (s .args .u) 2 ∙ lent .wide, omega arith),
+    let lent = s .pre .1 .0 in
+    let new : getD (s .args .part .now) (s .args .u) 0 ≡ 0 = omega (arith, c .before .before .if1 .left) in
+    let free : getD (s .args .marks .now) (s .args .u) 0 ≡ 0 = omega (arith, c .if2 .taken) in (
+      (length-set (s .args .part .now) (s .args .u) _ ∙ lent .wide, omega arith),
       λ S v k n o l h w. (
         _,
-        leaf-visit S _ _ v k o (s .args .part .now) (s .args .spare) (s .args .u) w (s .pre .1 .1) lent (omega arith) n l (c .before .before .if1 .left)
-            (rw (eq-eqb _ _ (c .if2 .taken))),
+        leaf-visit S _ _ v k o (s .args .part .now) (s .args .spare) (s .args .u) w (s .pre .1 .1) lent (omega arith) n l new (rw (eq-eqb _ _ free)),
       ),
     )
 
@@ -82,8 +83,8 @@ visit-returns-3 t c =
     let s = c .before .before .before .before .before .before in
     let lent = s .pre .1 .0 in
     let e = c .visit-operands in
-    let new = c .before .before .before .before .if1 .left in
-    let mark = c .before .before .if2 .left in (
+    let new : getD (s .args .part .now) (s .args .u) 0 ≡ 0 = omega (arith, c .before .before .before .before .if1 .left) in
+    let mark : getD (s .args .marks .now) (s .args .u) 0 ≡ 0 → ⊥ = λ z. omega (arith, c .before .before .if2 .left, z) in (
       e .ensures .0,
       λ S v k n o l h w.
           let part = s .args .part .now in
@@ -140,7 +141,7 @@ visit-operands-returns-2 t c =
       e .ensures .0,
       λ S v k n o l h w.
           let r = e .ensures .1 S v k n o (omega arith) h w in
-          (r .0, stop-here S _ _ v k u j n (lent .node) o (w .tabled) here _ y (r .0) (e .last .1 .1 .0) (e .result) (c .if2 .taken) (r .1)),
+          (r .0, stop-here S _ _ v k u j n (lent .node) o (w .tabled) here _ y (r .0) (e .last .1 .1 .0) (e .result) (omega (arith, c .if2 .taken)) (r .1)),
     )
 
 visit-operands-add-visit-operands : (t : ℕ) → visit-operands-lts.Need-add-visit-operands (visit-operands-calls t) (visit-operands-at t) visit-operands.Post

@@ -5,7 +5,7 @@ use Prim.Native.Nat.{ℕ, _+_, _*_, _-_, _<_}
 use mathlib.Core.Path.{_≡_, sym, ap, _∙_}
 use mathlib.Core.Bool.{true}
 use mathlib.Core.List.{[], _∷_, _++_}
-use lib.ListN.{length, length-set, length-append}
+use lib.ListN.{length, getD, length-set, length-append}
 use borrow.Author.Tests.{eq-eqb, ne-eqb}
 use Rattle.rows.specs.Table.{countIn}
 use Rattle.cone.specs.Walk.{marked}
@@ -65,7 +65,7 @@ visit-returns t c =
       (lent .wide, omega arith, omega arith),
       λ S v k n o l h w q. (
         _,
-        met-visit S _ _ v k o (s .args .part .now) (s .args .spare) (s .args .u) w (s .pre .1 .1 .0) lent (omega arith) n l (c .if1 .taken),
+        met-visit S _ _ v k o (s .args .part .now) (s .args .spare) (s .args .u) w (s .pre .1 .1 .0) lent (omega arith) n l (λ z. omega (arith, c .if1 .taken, z)),
         q ∙ sym (length-append o (s .args .u ∷ [])),
       ),
     )
@@ -74,15 +74,16 @@ visit-returns-2 : (t : ℕ) → visit-lts.Need-returns-2 (visit-calls t) (visit-
 visit-returns-2 t c =
     let s = c .before .before .before .before in
     let lent = s .pre .1 .0 in
-    let new = c .before .before .if1 .left in (
+    let new : getD (s .args .part .now) (s .args .u) 0 ≡ 0 = omega (arith, c .before .before .if1 .left) in
+    let free : getD (s .args .marks .now) (s .args .u) 0 ≡ 0 = omega (arith, c .if2 .taken) in (
       (
-        length-set (s .args .part .now) (s .args .u) 2 ∙ lent .wide,
+        length-set (s .args .part .now) (s .args .u) _ ∙ lent .wide,
         omega arith,
         omega (arith, zeros-set (s .args .part .now) (s .args .u) 1 (in-part lent) new),
       ),
       λ S v k n o l h w q. (
         _,
-        leaf-visit S _ _ v k o (s .args .part .now) (s .args .spare) (s .args .u) w (s .pre .1 .1 .0) lent (omega arith) n l new (rw (eq-eqb _ _ (c .if2 .taken))),
+        leaf-visit S _ _ v k o (s .args .part .now) (s .args .spare) (s .args .u) w (s .pre .1 .1 .0) lent (omega arith) n l new (rw (eq-eqb _ _ free)),
         q ∙ sym (length-append o (s .args .u ∷ [])),
       ),
     )
@@ -104,8 +105,8 @@ visit-returns-3 t c =
     let lent = s .pre .1 .0 in
     let e = c .visit-operands in
     let part = s .args .part .now in
-    let new = c .before .before .before .before .before .if1 .left in
-    let mark = c .before .before .before .if2 .left in (
+    let new : getD (s .args .part .now) (s .args .u) 0 ≡ 0 = omega (arith, c .before .before .before .before .before .if1 .left) in
+    let mark : getD (s .args .marks .now) (s .args .u) 0 ≡ 0 → ⊥ = λ z. omega (arith, c .before .before .before .if2 .left, z) in (
       (e .ensures .0 .0, e .ensures .0 .1, omega (arith, e .ensures .0 .2, zeros-set part (s .args .u) 0 (in-part lent) new)),
       λ S v k n o l h w q.
           let m : marked (s .args .marks .now) (s .args .u) ≡ true = rw (ne-eqb _ _ mark) in
@@ -169,7 +170,7 @@ visit-operands-returns-2 t c =
       (e .ensures .0 .0, e .ensures .0 .1, omega (arith, e .ensures .0 .2)),
       λ S v k n o l h w q.
           let r = e .ensures .1 S v k n o (omega arith) h w (omega arith) in
-          (r .0, stop-here S _ _ v k u j n (lent .node) o (w .tabled) here _ y (r .0) (e .last .1 .1 .0) (e .result) (c .if2 .taken) (r .1), r .2),
+          (r .0, stop-here S _ _ v k u j n (lent .node) o (w .tabled) here _ y (r .0) (e .last .1 .1 .0) (e .result) (omega (arith, c .if2 .taken)) (r .1), r .2),
     )
 
 visit-operands-add-visit-operands : (t : ℕ) → visit-operands-lts.Need-add-visit-operands (visit-operands-calls t) (visit-operands-at t) visit-operands.Post
