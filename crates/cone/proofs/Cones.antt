@@ -17,7 +17,7 @@ use Rattle.maps.proofs.Member.{any-found, any-of, below-in, mem-out, mem-index,
 use Rattle.maps.proofs.Enumerate.{clash}
 use Rattle.rows.specs.Table.{Falling}
 use Rattle.cone.specs.Walk.{marked, ConeInside, Question, FitTest}
-use Rattle.cone.specs.Looks.{looks, leavesMet, Ends, all, wide}
+use Rattle.cone.specs.Looks.{looks, leavesMet, Stops, all, wide}
 use Rattle.cone.specs.Part.{partOf, Ended, leavesBelow}
 use Rattle.cone.proofs.LeafLaws.{passing-few, met-grows}
 use Rattle.cone.proofs.Visits.{all-met}
@@ -197,20 +197,20 @@ module _ (S : Sheet) (g marks : List ℕ) (v : ℕ) (falling : Falling g) (low :
   module _ (k : ℕ) (o part : List ℕ) (spare : ℕ) (h : Ended S g (marked marks) v k (looks S (marked marks) v) o part spare) where
     -- The walk has ended early: the cut has more than k leaves, since so many are among the operands up to there.
     pub fit-wide : spare ≡ 0 → (list : List ℕ) → FitTest S (marked marks) v k (k + 1) list
-    fit-wide none list = go (h .ends)
+    fit-wide none list = go (h .stops)
       where
         many : k < length (cut S cone) → FitTest S (marked marks) v k (k + 1) list
         many l = record { cone = cone; isCone = cone-inside; count = omega arith; leaves = λ z. absurd (omega arith) }
 
-        go : Ends S (marked marks) k looked o → FitTest S (marked marks) v k (k + 1) list
+        go : Stops S (marked marks) k looked o → FitTest S (marked marks) v k (k + 1) list
         go (all e m) = absurd (omega (arith, h .walking .spared))
         go (wide b u rest p q x y) = many (omega (arith, cut-count, met-grows S (marked marks) o rest, ap (leavesMet S (marked marks)) q))
 
     -- A cut has fewer than v + 1 leaves, so a walk that may meet v of them looks at all.
     pub walked-all : v ≤ k → o ≡ looks S (marked marks) v
-    walked-all l = go (h .ends)
+    walked-all l = go (h .stops)
       where
-        go : Ends S (marked marks) k looked o → o ≡ looked
+        go : Stops S (marked marks) k looked o → o ≡ looked
         go (all e m) = e
         go (wide b u rest p q x y) =
             absurd (omega (

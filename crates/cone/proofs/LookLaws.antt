@@ -15,7 +15,7 @@ use Rattle.maps.specs.Cut.{reads}
 use Rattle.maps.proofs.Over.{and-true, same-test}
 use Rattle.maps.proofs.Member.{or-true, or-right, All-of, mem-in, mem-out}
 use Rattle.maps.proofs.Enumerate.{clash}
-use Rattle.cone.specs.Looks.{look, lookAll, looks, leavesMet, Ends, all, wide, LookedAt}
+use Rattle.cone.specs.Looks.{look, lookAll, looks, leavesMet, Stops, all, wide, LookedAt}
 use Rattle.cone.proofs.LeafLaws.{met-grows}
 
 -- after the operands t the members are v, and the marked nodes in t
@@ -96,7 +96,7 @@ module _ (S : Sheet) (marked : ℕ → Bool) where
   all-extends n = folds-extend (look S marked n) (look-extends n)
 
   -- Two ends of one walk: neither is longer, since leaf k + 1 would be among the operands before its last.
-  no-later : (k : ℕ) (whole t t′ : List ℕ) → Ends S marked k whole t → Ends S marked k whole t′ → length t < length t′ → ⊥
+  no-later : (k : ℕ) (whole t t′ : List ℕ) → Stops S marked k whole t → Stops S marked k whole t′ → length t < length t′ → ⊥
   no-later k whole t t′ (all e m) (all e′ m′) l = omega (arith, ap length e, ap length e′)
   no-later k whole t t′ (all e m) (wide b u rest p q h h′) l = omega (arith, ap length e, ap length q, length-append t′ rest)
   no-later k whole t t′ (wide b u rest p q h h′) (all e m) l = omega (arith, met-grows S marked t rest, ap (leavesMet S marked) (e ∙ q))
@@ -112,8 +112,8 @@ module _ (S : Sheet) (marked : ℕ → Bool) where
     where
       go : (x : Bool) → ltb (length (a .operands)) (length (b .operands)) ≡ x → (y : Bool) → ltb (length (b .operands)) (length (a .operands)) ≡ y
           → c ≡ c′
-      go true e y f = absurd (no-later k _ _ _ (a .ends) (b .ends) (ltb-true _ _ e))
-      go false e true f = absurd (no-later k _ _ _ (b .ends) (a .ends) (ltb-true _ _ f))
+      go true e y f = absurd (no-later k _ _ _ (a .stops) (b .stops) (ltb-true _ _ e))
+      go false e true f = absurd (no-later k _ _ _ (b .stops) (a .stops) (ltb-true _ _ f))
       go false e false f = omega (arith, ltb-false, a .count, b .count)
 
   -- the operands that are looked at right after u: those of u, where it is marked and met for the first time

@@ -15,7 +15,7 @@ use Rattle.maps.specs.Lists.{mem}
 use Rattle.maps.specs.Sheet.{Sheet, node, size}
 use Rattle.maps.proofs.Member.{mem-append, zeros-at}
 use Rattle.rows.specs.Table.{Tabled, countIn, operandIn}
-use Rattle.cone.specs.Looks.{look, lookAll, leavesMet, Ends, all, wide}
+use Rattle.cone.specs.Looks.{look, lookAll, leavesMet, Stops, all, wide}
 use Rattle.cone.specs.Part.{partOf, Lent, Walking, Ended}
 use Rattle.cone.proofs.LeafLaws.{met-none, met-again, met-new}
 use Rattle.cone.proofs.LookLaws.{all-extends}
@@ -34,14 +34,14 @@ module _ (S : Sheet) (g : List ℕ) (marked : ℕ → Bool) (v k : ℕ) where
 
   -- all that was to be looked at is
   ended : {t part : List ℕ} {spare : ℕ} → Walking S g marked v k t part spare → 0 < spare → Ended S g marked v k t t part spare
-  ended w l = record { ends = all refl (not-wide w l); walking = w }
+  ended w l = record { stops = all refl (not-wide w l); walking = w }
 
   -- where a leaf is spare, the walk has looked at all that it was to
   module _ (whole t part : List ℕ) (spare : ℕ) (e : Ended S g marked v k whole t part spare) (l : 0 < spare) where
     pub met-all : t ≡ whole
-    met-all = of (e .ends)
+    met-all = of (e .stops)
       where
-        of : Ends S marked k whole t → t ≡ whole
+        of : Stops S marked k whole t → t ≡ whole
         of (all q few) = q
         of (wide before u rest q r s m) = absurd (omega (arith, e .walking .spared, l, m))
 
@@ -131,7 +131,7 @@ module _ (S : Sheet) (g : List ℕ) (marked : ℕ → Bool) (v k : ℕ) where
         go : Dec (spare - 1 ≡ 0) → Ended S g marked v k (t ++ (u ∷ [])) (t ++ (u ∷ [])) (set part u 2) (spare - 1)
         go (yes q) =
             record {
-              ends = wide t u [] refl (sym (append-nil (t ++ (u ∷ [])))) (omega (arith, w .spared)) (omega (arith, one, w .spared));
+              stops = wide t u [] refl (sym (append-nil (t ++ (u ∷ [])))) (omega (arith, w .spared)) (omega (arith, one, w .spared));
               walking = after;
             }
         go (no h) = ended after (omega arith)
@@ -178,14 +178,14 @@ module _ (S : Sheet) (g : List ℕ) (marked : ℕ → Bool) (v k : ℕ) where
       -- no leaf is spare: y, or an operand below it, is leaf k + 1
       pub stop-here : (o part : List ℕ) (left : ℕ) → left ≡ 0 → Ended S g marked v k (look S marked n t y) o part left
           → Ended S g marked v k (lookAll S marked n t (following j)) o part left
-      stop-here o part left z e = rw next (of (e .ends))
+      stop-here o part left z e = rw next (of (e .stops))
         where
-          of : Ends S marked k (look S marked n t y) o → Ended S g marked v k (lookAll S marked n (look S marked n t y) (following (j + 1))) o part left
+          of : Stops S marked k (look S marked n t y) o → Ended S g marked v k (lookAll S marked n (look S marked n t y) (following (j + 1))) o part left
           of (all p few) = absurd (omega (arith, e .walking .spared))
           of (wide before x rest p r s m) =
               let more = all-extends S marked n (look S marked n t y) (following (j + 1)) in
               record {
-                ends = wide before x (rest ++ more .0) p (more .1 ∙ ap (λ (l : List ℕ). l ++ more .0) r ∙ append-assoc o rest (more .0)) s m;
+                stops = wide before x (rest ++ more .0) p (more .1 ∙ ap (λ (l : List ℕ). l ++ more .0) r ∙ append-assoc o rest (more .0)) s m;
                 walking = e .walking;
               }
 

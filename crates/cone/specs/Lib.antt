@@ -1,3 +1,4 @@
 pub mod Walk
 pub mod Looks
 pub mod Part
+mod LookCases

@@ -28,14 +28,14 @@ module _ (S : Sheet) (marked : ℕ → Bool) where
 
   -- "no operand after it has met K + 1 distinct leaves": of the operands `whole` those in t are looked at, which are all,
   -- or those up to and with the one at which leaf k + 1 is met
-  pub data Ends (k : ℕ) (whole t : List ℕ) : Type 0 where
-    all : t ≡ whole → leavesMet t ≤ k → Ends k whole t
-    wide : (before : List ℕ) (u : ℕ) (rest : List ℕ) → t ≡ before ++ (u ∷ []) → whole ≡ t ++ rest → leavesMet before ≡ k → leavesMet t ≡ k + 1 → Ends k whole t
+  pub data Stops (k : ℕ) (whole t : List ℕ) : Type 0 where
+    all : t ≡ whole → leavesMet t ≤ k → Stops k whole t
+    wide : (before : List ℕ) (u : ℕ) (rest : List ℕ) → t ≡ before ++ (u ∷ []) → whole ≡ t ++ rest → leavesMet before ≡ k → leavesMet t ≡ k + 1 → Stops k whole t
 
   -- c is how many operands the test of the cut of v looks at
   pub record LookedAt (v k c : ℕ) : Type 0 where
     pub operands : List ℕ
-    pub ends : Ends k (looks v) operands
+    pub stops : Stops k (looks v) operands
     pub count : c ≡ length operands
 
 -- how many operands the members below n have

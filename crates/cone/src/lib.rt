@@ -1,15 +1,13 @@
 // The cone of a node inside marked nodes: the walk that finds it, and the test whether its cut fits.
 // A node whose mark is not 0 may be a member. `part` holds 0 at a node that is not met, 1 at a member, 2 at a leaf. Ids fall from a node to
 // its operands, and each member's operands are walked once. `spare` is how many more leaves make the cut too wide: at 0 the walk is over.
-ghost use Prim.Native.Nat.{ℕ, _+_, _<_, _≤_};
+ghost use Prim.Native.Nat.{_<_, _≤_};
 ghost use mathlib.Core.Path.{_≡_};
-ghost use mathlib.Core.List.{List};
-ghost use lib.ListN.{length, take, drop};
-ghost use Rattle.maps.specs.Sheet.{Sheet, node};
+ghost use lib.ListN.{length, take};
+ghost use Rattle.maps.specs.Sheet.{Sheet};
 ghost use Rattle.rows.specs.Table.{Falling};
 ghost use Rattle.cone.specs.Walk.{marked, Question, FitTest};
-ghost use Rattle.cone.specs.Looks.{look, lookAll, looks};
-ghost use Rattle.cone.specs.Part.{Lent, Walking, Ended, leavesBelow};
+ghost use Rattle.cone.specs.Part.{Lent, VisitEnds, OperandsEnd, WalkEnds, leavesBelow};
 use rows::Graph;
 use rows::count_in;
 use rows::operand_in;
@@ -19,8 +17,7 @@ fn visit(graph: &Graph, marks: &[u8; 256], part: &mut [u8; 256], u: u32, spare: 
     requires { ⌜ Lent (now graph) (now part) u ⌝ }
     requires { ⌜ 0 < spare ⌝ }
     ensures { λ r. ⌜ (length (now (part .exit)) ≡ 256) × (r ≤ spare) ⌝ }
-    ensures { λ r. ⌜ ((S : Sheet) (v k n : ℕ) (t : List ℕ) → u < n → n ≤ v → Walking S (now (graph .entry)) (marked (now (marks .entry))) v k t (now (part .entry)) spare
-        → (o : List ℕ) × Ended S (now (graph .entry)) (marked (now (marks .entry))) v k (look S (marked (now (marks .entry))) n t u) o (now (part .exit)) r) ⌝ }
+    ensures { λ r. ⌜ VisitEnds (now (graph .entry)) (now (marks .entry)) (now (part .entry)) (now (part .exit)) spare r u ⌝ }
 {
     let i = u as usize;
     if part[i] != 0 {
@@ -46,8 +43,7 @@ fn visit_operands(
     requires { ⌜ Lent (now graph) (now part) u ⌝ }
     requires { ⌜ 0 < spare ⌝ }
     ensures { λ r. ⌜ (length (now (part .exit)) ≡ 256) × (r ≤ spare) ⌝ }
-    ensures { λ r. ⌜ ((S : Sheet) (v k n : ℕ) (t : List ℕ) → u ≤ n → n ≤ v → Walking S (now (graph .entry)) (marked (now (marks .entry))) v k t (now (part .entry)) spare
-        → (o : List ℕ) × Ended S (now (graph .entry)) (marked (now (marks .entry))) v k (lookAll S (marked (now (marks .entry))) n t (drop j (node S u .operands))) o (now (part .exit)) r) ⌝ }
+    ensures { λ r. ⌜ OperandsEnd (now (graph .entry)) (now (marks .entry)) (now (part .entry)) (now (part .exit)) spare r u j ⌝ }
 {
     if count_in(graph, u) <= j {
         return spare;
@@ -66,8 +62,7 @@ fn walk(graph: &Graph, marks: &[u8; 256], part: &mut [u8; 256], v: u32, spare: u
     requires { ⌜ v < 256 ⌝ }
     requires { ⌜ 0 < spare ⌝ }
     ensures { λ r. ⌜ r ≤ spare ⌝ }
-    ensures { λ r. ⌜ ((S : Sheet) (k : ℕ) → Question S (now (graph .entry)) (now (marks .entry)) v → spare ≡ k + 1
-        → (o : List ℕ) × Ended S (now (graph .entry)) (marked (now (marks .entry))) v k (looks S (marked (now (marks .entry))) v) o (now (part .exit)) r) ⌝ }
+    ensures { λ r. ⌜ WalkEnds (now (graph .entry)) (now (marks .entry)) v spare (now (part .exit)) r ⌝ }
 {
     *part = [0; 256];
     part[v as usize] = 1;

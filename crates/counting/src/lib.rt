@@ -1,16 +1,16 @@
-// A copy of the test whether a cone's cut fits (`cone::cut_fits`) that counts in `looked` the operands it looks at.
+// A copy of the test whether a cone's cut fits (`cone::cut_fits`), function by function, that counts in `looked` the operands it looks at.
 ghost use Prim.Native.Nat.{ℕ, _+_, _-_, _<_, _≤_};
 ghost use mathlib.Core.Path.{_≡_};
 ghost use mathlib.Core.Bool.{Bool};
-ghost use mathlib.Core.List.{List};
-ghost use lib.ListN.{length, drop};
+ghost use lib.ListN.{length};
 ghost use Rattle.maps.specs.Limits.{operandsMost};
-ghost use Rattle.maps.specs.Sheet.{Sheet, node, size};
+ghost use Rattle.maps.specs.Sheet.{Sheet, size};
 ghost use Rattle.rows.specs.Table.{Falling};
 ghost use Rattle.cone.specs.Walk.{marked, ConeInside, Question, FitTest};
-ghost use Rattle.cone.specs.Looks.{look, lookAll, looks, LookedAt, operandsOf};
-ghost use Rattle.cone.specs.Part.{Lent, Walking, Ended};
+ghost use Rattle.cone.specs.Looks.{LookedAt, operandsOf};
+ghost use Rattle.cone.specs.Part.{Lent};
 ghost use Rattle.counting.specs.Room.{inEnd, looksMost};
+ghost use Rattle.counting.specs.Counts.{VisitCounts, OperandsCount, WalkCounts};
 use cone::leaves;
 use rows::Graph;
 use rows::count_in;
@@ -28,9 +28,7 @@ fn visit(
     requires { ⌜ 0 < spare ⌝ }
     requires { ⌜ inEnd (now looked) (now part) ≤ looksMost ⌝ }
     ensures { λ r. ⌜ (length (now (part .exit)) ≡ 256) × (r ≤ spare) × (inEnd (now (looked .exit)) (now (part .exit)) ≤ inEnd (now (looked .entry)) (now (part .entry))) ⌝ }
-    ensures { λ r. ⌜ ((S : Sheet) (v k n : ℕ) (t : List ℕ) → u < n → n ≤ v → Walking S (now (graph .entry)) (marked (now (marks .entry))) v k t (now (part .entry)) spare
-        → now (looked .entry) ≡ length t + 1
-        → (o : List ℕ) × Ended S (now (graph .entry)) (marked (now (marks .entry))) v k (look S (marked (now (marks .entry))) n t u) o (now (part .exit)) r × (now (looked .exit) ≡ length o)) ⌝ }
+    ensures { λ r. ⌜ VisitCounts (now (graph .entry)) (now (marks .entry)) (now (part .entry)) (now (part .exit)) (now (looked .entry)) (now (looked .exit)) spare r u ⌝ }
 {
     let i = u as usize;
     if part[i] != 0 {
@@ -57,9 +55,7 @@ fn visit_operands(
     requires { ⌜ 0 < spare ⌝ }
     requires { ⌜ inEnd (now looked) (now part) + (operandsMost - j) ≤ looksMost ⌝ }
     ensures { λ r. ⌜ (length (now (part .exit)) ≡ 256) × (r ≤ spare) × (inEnd (now (looked .exit)) (now (part .exit)) ≤ inEnd (now (looked .entry)) (now (part .entry)) + (operandsMost - j)) ⌝ }
-    ensures { λ r. ⌜ ((S : Sheet) (v k n : ℕ) (t : List ℕ) → u ≤ n → n ≤ v → Walking S (now (graph .entry)) (marked (now (marks .entry))) v k t (now (part .entry)) spare
-        → now (looked .entry) ≡ length t
-        → (o : List ℕ) × Ended S (now (graph .entry)) (marked (now (marks .entry))) v k (lookAll S (marked (now (marks .entry))) n t (drop j (node S u .operands))) o (now (part .exit)) r × (now (looked .exit) ≡ length o)) ⌝ }
+    ensures { λ r. ⌜ OperandsCount (now (graph .entry)) (now (marks .entry)) (now (part .entry)) (now (part .exit)) (now (looked .entry)) (now (looked .exit)) spare r u j ⌝ }
 {
     if count_in(graph, u) <= j {
         return spare;
@@ -85,8 +81,7 @@ fn walk(
     requires { ⌜ v < 256 ⌝ }
     requires { ⌜ 0 < spare ⌝ }
     ensures { λ r. ⌜ r ≤ spare ⌝ }
-    ensures { λ r. ⌜ ((S : Sheet) (k : ℕ) → Question S (now (graph .entry)) (now (marks .entry)) v → spare ≡ k + 1
-        → (o : List ℕ) × Ended S (now (graph .entry)) (marked (now (marks .entry))) v k (looks S (marked (now (marks .entry))) v) o (now (part .exit)) r × (now (looked .exit) ≡ length o)) ⌝ }
+    ensures { λ r. ⌜ WalkCounts (now (graph .entry)) (now (marks .entry)) v spare (now (part .exit)) (now (looked .exit)) r ⌝ }
 {
     *part = [0; 256];
     *looked = 0;
@@ -119,7 +114,7 @@ pub fn cut_fits(
     count
 }
 
-// How many operands the walk to the end looks at: as many as the members of the cone have.
+// How many operands the walk to the end looks at: as many as the members of the cone have. No cut has 257 leaves.
 pub fn all_looks(graph: &Graph, marks: &[u8; 256], v: u32) -> u32
     requires { ⌜ Falling (now graph) ⌝ }
     requires { ⌜ v < 256 ⌝ }

@@ -25,7 +25,7 @@ returns c S asked =
     omega (arith, leaves-met S g marks v (s .pre .0) (s .pre .1 .0) asked k (e .0) part (walk .result) (e .1) spares) in (
       fit-listed S g marks v (s .pre .0) (s .pre .1 .0) asked k (e .0) part (walk .result) (e .1) spares _ (c .leaves .last .1 .0) count
           (c .leaves .ensures (sym count)),
-      record { operands = e .0; ends = e .1 .ends; count = e .2 },
+      record { operands = e .0; stops = e .1 .stops; count = e .2 },
     )
 
 returns-2 : tie.Need-returns-2
@@ -37,7 +37,7 @@ returns-2 c S asked =
     let e = walk .ensures .1 S k asked refl in (
       subst (λ (r : ℕ). FitTest S (marked (s .args .marks .now)) (s .args .v) k r (s .args .cut .now)) (omega (arith, none))
           (fit-wide S _ _ (s .args .v) (s .pre .0) (s .pre .1 .0) asked k (e .0) (walk .last .1 .1 .0) (walk .result) (e .1) none (s .args .cut .now)),
-      record { operands = e .0; ends = e .1 .ends; count = e .2 },
+      record { operands = e .0; stops = e .1 .stops; count = e .2 },
     )
 
 pub cut-fits-spec : {M : Type 1} → statement M
