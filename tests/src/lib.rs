@@ -10,6 +10,7 @@ pub mod made;
 pub mod models;
 pub mod plan;
 pub mod planner;
+pub mod programs;
 pub mod random;
 pub mod reader;
 pub mod writer;

@@ -5,14 +5,13 @@ use maps_tests::blif::{self, Caller, Ground, TEXT};
 use maps_tests::library::{imported, plan};
 use maps_tests::models::{abc, any_caller, at_limit, caller, damaged, sheet, text};
 use maps_tests::plan::{refusal_line, Plan};
+use maps_tests::programs::{file, program};
 use maps_tests::random::Random;
 use maps_tests::reader;
 use std::collections::BTreeSet;
 use std::ffi::OsStr;
-use std::fs::{self, File};
-use std::io::{Seek, SeekFrom, Write};
+use std::io::{Seek, Write};
 use std::os::unix::ffi::OsStrExt;
-use std::path::PathBuf;
 use std::process::{Command, Output, Stdio};
 
 const SEED: u64 = 20260109;
@@ -28,24 +27,6 @@ const USAGE: &str = "usage: import K T H TABLE LEVEL < model.blif > sheet\n";
 /// The caller's numbers where a test is not about them, and a text that is accepted with them.
 const CALLER: Caller = Caller { leaves: 3, top: 2, horizon: 4, table: 1, level: 1 };
 const MODEL: &[u8] = b".model m\n.inputs a b\n.outputs q\n.names a b x\n11 1\n.latch x q\n.end\n";
-
-/// A program, which `rt check` builds.
-fn program(name: &str) -> PathBuf {
-    let path = PathBuf::from(env!("CARGO_MANIFEST_DIR")).parent().unwrap().join("target/bin").join(name);
-    assert!(path.exists(), "there is no {}: `rt check {name}` builds it", path.display());
-    path
-}
-
-/// A file without a name that has these bytes and is at its beginning.
-fn file(bytes: &[u8]) -> File {
-    let name = format!("maps-import-{}-{:?}", std::process::id(), std::thread::current().id());
-    let path = std::env::temp_dir().join(name);
-    let mut file = File::options().read(true).write(true).create_new(true).open(&path).expect("a file for the text");
-    fs::remove_file(&path).expect("the file has no name any more");
-    file.write_all(bytes).unwrap();
-    file.seek(SeekFrom::Start(0)).unwrap();
-    file
-}
 
 /// The caller's numbers as the program's arguments.
 fn words(caller: &Caller) -> [String; 5] {

@@ -6,48 +6,17 @@ use maps_tests::limits::{H, W};
 use maps_tests::made::{self, chain, greatest, input, long, numbers, respelled, small, spelled, stairs, table, Size};
 use maps_tests::plan::{refusal_line, Plan};
 use maps_tests::planner::planned;
+use maps_tests::programs::{compare_lines, program, STOP};
 use maps_tests::random::Random;
 use maps_tests::reader::{self, Difference, Node, Sheet};
-use std::fs::{self, File};
-use std::io::{Read, Seek, SeekFrom, Write};
-use std::path::PathBuf;
+use std::io::{Read, Write};
 use std::process::{Command, Stdio};
 
 const SEED: u64 = 20260104;
 
-/// The program stops reading after so many bytes.
-const STOP: usize = 16_384;
-
-/// The program, which `rt check listing` builds.
-fn program() -> PathBuf {
-    let path = PathBuf::from(env!("CARGO_MANIFEST_DIR")).parent().unwrap().join("target/bin/listing");
-    assert!(path.exists(), "there is no {}: `rt check listing` builds it", path.display());
-    path
-}
-
-/// What the program prints where standard input is a file with these bytes. It ends well, reads all of them up to where it stops, and says nothing
-/// on standard error.
-fn printed(bytes: &[u8]) -> String {
-    let name = format!("maps-listing-{}-{:?}", std::process::id(), std::thread::current().id());
-    let path = std::env::temp_dir().join(name);
-    let mut file = File::options().read(true).write(true).create_new(true).open(&path).expect("a file for the sheet");
-    fs::remove_file(&path).expect("the file has no name any more");
-    file.write_all(bytes).unwrap();
-    file.seek(SeekFrom::Start(0)).unwrap();
-    let output = Command::new(program()).stdin(file.try_clone().unwrap()).output().expect("the program runs");
-    assert!(output.status.success() && output.stderr.is_empty(), "{output:?}");
-    assert_eq!(file.stream_position().unwrap(), bytes.len().min(STOP) as u64, "bytes read of {}", bytes.len());
-    String::from_utf8(output.stdout).expect("text")
-}
-
 /// Holds what the program prints to a listing, or the line of a refusal.
 fn compare(bytes: &[u8], expected: &str) {
-    let found = printed(bytes);
-    if found != expected {
-        let (mut found, mut expected) = (found.split_inclusive('\n'), expected.split_inclusive('\n'));
-        let differ = std::iter::repeat_with(|| (found.next(), expected.next())).find(|(a, b)| a != b).unwrap();
-        panic!("{:?} and not {:?}, for {bytes:?}", differ.0, differ.1);
-    }
+    compare_lines("listing", bytes, expected);
 }
 
 /// The listing of a plan of so many nodes.
@@ -234,7 +203,7 @@ fn input_in_pieces() {
     assert_eq!(answer.number, 0);
     let expected = listing(40, &buffer[..answer.place as usize]);
     for piece in [1, 7, 64] {
-        let mut child = Command::new(program()).stdin(Stdio::piped()).stdout(Stdio::piped()).spawn().expect("the program runs");
+        let mut child = Command::new(program("listing")).stdin(Stdio::piped()).stdout(Stdio::piped()).spawn().expect("the program runs");
         let mut pipe = child.stdin.take().unwrap();
         for part in bytes.chunks(piece) {
             pipe.write_all(part).unwrap();

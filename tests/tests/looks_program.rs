@@ -3,49 +3,19 @@
 use maps_tests::limits::{H, K};
 use maps_tests::made::{self, chain, damaged, greatest, input, nearly, numbers, respelled, small, spelled, table, Size};
 use maps_tests::plan::refusal_line;
+use maps_tests::programs::{compare_lines, program, root};
 use maps_tests::random::Random;
 use maps_tests::reader::{self, Difference, Node, Sheet};
 use std::collections::BTreeSet;
-use std::fs::{self, File};
-use std::io::{Seek, SeekFrom, Write};
-use std::path::{Path, PathBuf};
+use std::fs;
+use std::io::Write;
 use std::process::{Command, Stdio};
 
 const SEED: u64 = 20260110;
 
-/// The folder of the repository.
-fn root() -> &'static Path {
-    Path::new(env!("CARGO_MANIFEST_DIR")).parent().unwrap()
-}
-
-/// The program, which `rt check looks` builds.
-fn program() -> PathBuf {
-    let path = root().join("target/bin/looks");
-    assert!(path.exists(), "there is no {}: `rt check looks` builds it", path.display());
-    path
-}
-
-/// What the program prints where standard input is a file with these bytes. It ends well and says nothing on standard error.
-fn printed(bytes: &[u8]) -> String {
-    let name = format!("maps-looks-{}-{:?}", std::process::id(), std::thread::current().id());
-    let path = std::env::temp_dir().join(name);
-    let mut file = File::options().read(true).write(true).create_new(true).open(&path).expect("a file for the sheet");
-    fs::remove_file(&path).expect("the file has no name any more");
-    file.write_all(bytes).unwrap();
-    file.seek(SeekFrom::Start(0)).unwrap();
-    let output = Command::new(program()).stdin(file).output().expect("the program runs");
-    assert!(output.status.success() && output.stderr.is_empty(), "{output:?}");
-    String::from_utf8(output.stdout).expect("text")
-}
-
 /// Holds what the program prints to these lines.
 fn compare(bytes: &[u8], expected: &str) {
-    let found = printed(bytes);
-    if found != expected {
-        let (mut found, mut expected) = (found.split_inclusive('\n'), expected.split_inclusive('\n'));
-        let differ = std::iter::repeat_with(|| (found.next(), expected.next())).find(|(a, b)| a != b).unwrap();
-        panic!("{:?} and not {:?}, for {bytes:?}", differ.0, differ.1);
-    }
+    compare_lines("looks", bytes, expected);
 }
 
 /// What is counted for a node: its leaves, the operands that the walk to the end looks at, and those that the walk looks at that stops.
@@ -453,7 +423,7 @@ fn a_sheet_in_pieces() {
     let expected: String = counts(&sheet).iter().map(Count::line).collect();
     assert!(!expected.is_empty());
     for piece in [1, 7, 64] {
-        let mut child = Command::new(program()).stdin(Stdio::piped()).stdout(Stdio::piped()).spawn().expect("the program runs");
+        let mut child = Command::new(program("looks")).stdin(Stdio::piped()).stdout(Stdio::piped()).spawn().expect("the program runs");
         let mut pipe = child.stdin.take().unwrap();
         for part in bytes.chunks(piece) {
             pipe.write_all(part).unwrap();

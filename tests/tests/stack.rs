@@ -7,11 +7,11 @@ use maps_tests::library::{import, plan, write};
 use maps_tests::limits::{fields, H, N};
 use maps_tests::made::{chain, greatest, input, numbers, spelled, table};
 use maps_tests::models::abc;
+use maps_tests::programs::root;
 use maps_tests::random::Random;
 use maps_tests::reader::Sheet;
 use maps_tests::writer::{Records, Rows};
 use std::collections::{BTreeMap, BTreeSet};
-use std::path::{Path, PathBuf};
 use std::process::Command;
 
 /// The exported calls.
@@ -51,10 +51,6 @@ const FOREIGN_BYTES: u64 = 8192;
 
 /// The return address, which each call adds.
 const RETURN: u64 = 8;
-
-fn root() -> PathBuf {
-    Path::new(env!("CARGO_MANIFEST_DIR")).parent().unwrap().to_path_buf()
-}
 
 /// A function of the archive.
 #[derive(Debug, Default)]

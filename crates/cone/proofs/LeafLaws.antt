@@ -1,17 +1,16 @@
 -- How many distinct leaves are met: none less with more operands, one more at an operand that is a leaf and new.
 use Prim.Native.Nat.{ℕ, zero, suc, _+_, _≤_, _<_}
 use mathlib.Core.Path.{_≡_, refl, sym, ap, _∙_, fun-ext}
-use mathlib.Core.Bool.{Bool, true, false, cond, not, _&&_, _||_}
+use mathlib.Core.Bool.{Bool, true, false, cond, not, _&&_, _||_, or-false}
 use mathlib.Core.List.{List, [], _∷_, _++_}
 use mathlib.Core.Logic.{_⊎_, inl, inr}
 use native.Mathlib.Decide.{ℕ-discrete}
 use native.Mathlib.Omega.{arith}
-use lib.Dec.{eqb}
 use lib.ListN.{length, length-append}
-use borrow.Author.Tests.{eqb-true, eq-eqb, ne-eqb}
+use borrow.Author.Tests.{eq-eqb, ne-eqb}
 use Rattle.maps.specs.Lists.{mem, keep, below}
 use Rattle.maps.specs.Sheet.{Sheet, size}
-use Rattle.maps.proofs.Over.{and-true, last-or}
+use Rattle.maps.proofs.Over.{last-or}
 use Rattle.maps.proofs.Member.{mem-append, keep-append}
 use Rattle.cone.specs.Looks.{leavesMet}
 
@@ -54,6 +53,7 @@ passing-one p q x a b same (suc n) = let ih = passing-one p q x a b same n in
     past ih (inr e) = rw (ap p (sym e) ∙ a, ap q (sym e) ∙ b, ih .0 (omega arith)) (omega arith)
 
 module _ (S : Sheet) (marked : ℕ → Bool) where
+  -- u is a leaf among the operands t
   abbrev isMet : List ℕ → ℕ → Bool
   isMet t u = mem u t && not (marked u)
 
@@ -65,21 +65,18 @@ module _ (S : Sheet) (marked : ℕ → Bool) where
       none zero = refl
       none (suc n) = passing-turn (isMet []) n ∙ rw (none n)
 
+  -- more operands have no fewer leaves
   pub met-grows : (t s : List ℕ) → leavesMet S marked t ≤ leavesMet S marked (t ++ s)
   unfolding leavesMet
-  met-grows t s = passing-more (isMet t) (isMet (t ++ s)) (λ u e. rw (mem-append u t s) (go u (mem u t) (mem u s) (not (marked u)) e)) (size S)
+  met-grows t s = passing-more (isMet t) (isMet (t ++ s)) (λ u e. rw (mem-append u t s) (go (mem u t) (mem u s) (not (marked u)) e)) (size S)
     where
-      go : (u : ℕ) (a b c : Bool) → (a && c) ≡ true → ((a || b) && c) ≡ true
-      go u true b c e = e
-      go u false b c e = cc
+      go : (a b c : Bool) → (a && c) ≡ true → ((a || b) && c) ≡ true
+      go true b c e = e
+      go false b c e = cc
 
   -- the operand u more
   beside : (t : List ℕ) (u w : ℕ) → (w ≡ u → ⊥) → isMet (t ++ (u ∷ [])) w ≡ isMet t w
-  beside t u w f = rw (mem-append w t (u ∷ []), ne-eqb w u f) (go (mem w t) (not (marked w)))
-    where
-      go : (a c : Bool) → ((a || false) && c) ≡ (a && c)
-      go true c = refl
-      go false c = refl
+  beside t u w f = rw (mem-append w t (u ∷ []), ne-eqb w u f, or-false (mem w t))
 
   -- one that was met or is marked adds nothing
   pub met-again : (t : List ℕ) (u : ℕ) → (mem u t || marked u) ≡ true → leavesMet S marked (t ++ (u ∷ [])) ≡ leavesMet S marked t

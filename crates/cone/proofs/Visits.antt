@@ -1,9 +1,8 @@
 -- The walk from operand to operand: what `part` and the spare leaves say after each, and where the walk ends.
 use Prim.Native.Nat.{ℕ, zero, suc, _+_, _-_, _≤_, _<_}
 use mathlib.Core.Path.{_≡_, refl, sym, subst, ap, _∙_}
-use mathlib.Core.Bool.{Bool, true, false, cond, not, _&&_, _||_}
+use mathlib.Core.Bool.{Bool, true, false, cond, _&&_, _||_, and-false, or-false}
 use mathlib.Core.List.{List, [], _∷_, _++_, append-nil, append-assoc}
-use mathlib.Core.Logic.{_⊎_, inl, inr}
 use native.Mathlib.Decide.{ℕ-discrete}
 use native.Mathlib.Numerals.{add-one}
 use native.Mathlib.Omega.{arith}
@@ -22,10 +21,6 @@ use Rattle.cone.proofs.LookLaws.{all-extends}
 
 pub in-part : {g p : List ℕ} {u : ℕ} → Lent g p u → u < length p
 in-part l = omega (arith, l .node, l .wide)
-
-or-same : (b : Bool) → (b || false) ≡ b
-or-same true = refl
-or-same false = refl
 
 module _ (S : Sheet) (g : List ℕ) (marked : ℕ → Bool) (v k : ℕ) where
   -- the walk goes on only where a leaf is spare
@@ -87,18 +82,14 @@ module _ (S : Sheet) (g : List ℕ) (marked : ℕ → Bool) (v k : ℕ) where
     met-visit (suc n) l f = rw stays (ended after spares)
       where
         stays : look S marked (suc n) t u ≡ t ++ (u ∷ [])
-        stays = rw (met f) (go (marked u))
-          where
-            go : (m : Bool) → cond (m && false) (lookAll S marked n (t ++ (u ∷ [])) (node S u .operands)) (t ++ (u ∷ [])) ≡ t ++ (u ∷ [])
-            go true = refl
-            go false = refl
+        stays = rw (met f, and-false (marked u))
 
         same : (x : ℕ) → mem x (t ++ (u ∷ [])) ≡ mem x t
         same x = mem-append x t (u ∷ []) ∙ go (ℕ-discrete x u)
           where
             go : Dec (x ≡ u) → (mem x t || (eqb x u || false)) ≡ mem x t
             go (yes q) = rw (q, met f)
-            go (no h) = rw (ne-eqb x u h) (or-same (mem x t))
+            go (no h) = rw (ne-eqb x u h) (or-false (mem x t))
 
         after : Walking S g marked v k (t ++ (u ∷ [])) part spare
         after =
@@ -115,7 +106,7 @@ module _ (S : Sheet) (g : List ℕ) (marked : ℕ → Bool) (v k : ℕ) where
       where
         go : Dec (x ≡ u) → getD (set part u (cond m 1 2)) x 0 ≡ cond (eqb x v) 1 (cond (mem x t || (eqb x u || false)) (cond (marked x) 1 2) 0)
         go (yes q) = rw (q, getD-set-same part u (cond m 1 2) 0 (in-part lent), other, new z, eq-eqb u u refl, e)
-        go (no h) = rw (getD-set-other part u x (cond m 1 2) 0 h, ne-eqb x u h, or-same (mem x t)) (w .table x l)
+        go (no h) = rw (getD-set-other part u x (cond m 1 2) 0 h, ne-eqb x u h, or-false (mem x t)) (w .table x l)
 
     -- a new leaf: one is spare less, and where none is left the walk ends
     pub leaf-visit : (n : ℕ) → u < n → getD part u 0 ≡ 0 → marked u ≡ false → Ended S g marked v k (look S marked n t u) (t ++ (u ∷ [])) (set part u 2) (spare - 1)
