@@ -1,6 +1,6 @@
-// Reads a sheet from standard input, stopping after 16,384 bytes, or prints the line of its refusal. For each logic node with the output mark, of
-// the cone that has every logic node which can be inside: the leaves of its cut, and how many operands of it a walk to its end looks at, which
-// was the test whether the cut fits before, and how many the test looks at now.
+// Reads a sheet from standard input, stopping after 16,384 bytes, and prints the line of its refusal or, for each logic node with the output mark, a
+// line on its cone with all logic that can be inside: the leaves of its cut, and how many operands are looked at by a walk to the end (before) and
+// by the test whether the cut fits (now).
 ghost use Prim.Native.Nat.{_<_, _≤_};
 ghost use Rattle.rows.specs.Table.{Falling};
 use counting::all_looks;
