@@ -3,6 +3,7 @@
 // by the test whether the cut fits (now).
 ghost use Prim.Native.Nat.{_<_, _≤_};
 ghost use Rattle.rows.specs.Table.{Falling};
+ghost use Rattle.looks.specs.Counted.{Counted};
 use counting::all_looks;
 use counting::cut_fits;
 use rows::Graph;
@@ -42,24 +43,46 @@ fn print_leaves(count: u32, k: u32) {
     }
 }
 
+// What is shown of a cone: the leaves of its cut, or one more than k, and the operands looked at.
+struct Counts {
+    leaves: u32,
+    before: u32,
+    now: u32,
+}
+
+// The counts of the cone of v inside the marks.
+fn count_cone(graph: &Graph, marks: &[u8; 256], v: u32, k: u32) -> Counts
+    requires { ⌜ Falling (now graph) ⌝ }
+    requires { ⌜ v < 256 ⌝ }
+    requires { ⌜ k < 8 ⌝ }
+    ensures { λ r. ⌜ Counted (now (graph .entry)) (now (marks .entry)) v k (r .leaves) (r .before) (r .now) ⌝ }
+{
+    let mut cut = [0u32; 8];
+    let mut looked: u32 = 0;
+    let before = all_looks(graph, marks, v);
+    let leaves = cut_fits(graph, marks, &mut cut, &mut looked, v, k);
+    Counts {
+        leaves,
+        before,
+        now: looked,
+    }
+}
+
 // The line of node v.
 fn show(graph: &Graph, marks: &[u8; 256], v: u32, k: u32)
     requires { ⌜ Falling (now graph) ⌝ }
     requires { ⌜ v < 256 ⌝ }
     requires { ⌜ k < 8 ⌝ }
 {
-    let mut cut = [0u32; 8];
-    let mut now: u32 = 0;
-    let before = all_looks(graph, marks, v);
-    let count = cut_fits(graph, marks, &mut cut, &mut now, v, k);
+    let found = count_cone(graph, marks, v, k);
     io::write_all(1, b"node ");
     io::print_decimal(1, v as u64);
     io::write_all(1, b": ");
-    print_leaves(count, k);
+    print_leaves(found.leaves, k);
     io::write_all(1, b" leaves; operands looked at: ");
-    io::print_decimal(1, before as u64);
+    io::print_decimal(1, found.before as u64);
     io::write_all(1, b" before, ");
-    io::print_decimal(1, now as u64);
+    io::print_decimal(1, found.now as u64);
     io::write_all(1, b" now\n");
 }
 
