@@ -2,7 +2,7 @@
 use std::fs::{self, File};
 use std::io::{Seek, SeekFrom, Write};
 use std::path::{Path, PathBuf};
-use std::process::Command;
+use std::process::{Command, Output, Stdio};
 
 /// A program that reads a sheet stops after so many bytes.
 pub const STOP: usize = 16_384;
@@ -38,6 +38,21 @@ pub fn printed(name: &str, sheet: &[u8]) -> String {
     assert!(output.status.success() && output.stderr.is_empty(), "{output:?}");
     assert_eq!(file.stream_position().unwrap(), sheet.len().min(STOP) as u64, "bytes read of {}", sheet.len());
     String::from_utf8(output.stdout).expect("text")
+}
+
+/// What a program writes where these bytes come through a pipe, piece by piece.
+pub fn in_pieces(command: &mut Command, bytes: &[u8], piece: usize) -> Output {
+    let mut child = command.stdin(Stdio::piped()).stdout(Stdio::piped()).stderr(Stdio::piped()).spawn().expect("the program runs");
+    let mut pipe = child.stdin.take().unwrap();
+    for part in bytes.chunks(piece) {
+        pipe.write_all(part).unwrap();
+        pipe.flush().unwrap();
+        std::thread::sleep(std::time::Duration::from_micros(50));
+    }
+    drop(pipe);
+    let output = child.wait_with_output().unwrap();
+    assert!(output.status.success() && output.stderr.is_empty(), "in pieces of {piece}: {output:?}");
+    output
 }
 
 /// Holds what a program prints for a sheet to these lines.

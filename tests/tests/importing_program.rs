@@ -5,12 +5,12 @@ use maps_tests::blif::{self, Caller, Ground, TEXT};
 use maps_tests::library::{imported, plan};
 use maps_tests::models::{abc, any_caller, at_limit, caller, damaged, sheet, text};
 use maps_tests::plan::{refusal_line, Plan};
-use maps_tests::programs::{file, program};
+use maps_tests::programs::{file, in_pieces, program};
 use maps_tests::random::Random;
 use maps_tests::reader;
 use std::collections::BTreeSet;
 use std::ffi::OsStr;
-use std::io::{Seek, Write};
+use std::io::Seek;
 use std::os::unix::ffi::OsStrExt;
 use std::process::{Command, Output, Stdio};
 
@@ -147,18 +147,8 @@ fn texts_longer_than_the_program_reads() {
 fn a_text_in_pieces() {
     let (_, sheet) = imported(MODEL, &CALLER, AMPLE);
     for piece in [1, 7, 64] {
-        let mut command = Command::new(program("import"));
-        command.args(words(&CALLER)).stdin(Stdio::piped()).stdout(Stdio::piped()).stderr(Stdio::piped());
-        let mut child = command.spawn().expect("the program runs");
-        let mut pipe = child.stdin.take().unwrap();
-        for part in MODEL.chunks(piece) {
-            pipe.write_all(part).unwrap();
-            pipe.flush().unwrap();
-            std::thread::sleep(std::time::Duration::from_micros(50));
-        }
-        drop(pipe);
-        let output = child.wait_with_output().unwrap();
-        assert!(output.status.success() && output.stderr.is_empty() && output.stdout == sheet, "in pieces of {piece}: {output:?}");
+        let output = in_pieces(Command::new(program("import")).args(words(&CALLER)), MODEL, piece);
+        assert!(output.stdout == sheet, "in pieces of {piece}: {output:?}");
     }
 }
 

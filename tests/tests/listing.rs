@@ -6,11 +6,10 @@ use maps_tests::limits::{H, W};
 use maps_tests::made::{self, chain, greatest, input, long, numbers, respelled, small, spelled, stairs, table, Size};
 use maps_tests::plan::{refusal_line, Plan};
 use maps_tests::planner::planned;
-use maps_tests::programs::{compare_lines, program, STOP};
+use maps_tests::programs::{compare_lines, in_pieces, program, STOP};
 use maps_tests::random::Random;
 use maps_tests::reader::{self, Difference, Node, Sheet};
-use std::io::{Read, Write};
-use std::process::{Command, Stdio};
+use std::process::Command;
 
 const SEED: u64 = 20260104;
 
@@ -203,16 +202,7 @@ fn input_in_pieces() {
     assert_eq!(answer.number, 0);
     let expected = listing(40, &buffer[..answer.place as usize]);
     for piece in [1, 7, 64] {
-        let mut child = Command::new(program("listing")).stdin(Stdio::piped()).stdout(Stdio::piped()).spawn().expect("the program runs");
-        let mut pipe = child.stdin.take().unwrap();
-        for part in bytes.chunks(piece) {
-            pipe.write_all(part).unwrap();
-            pipe.flush().unwrap();
-            std::thread::sleep(std::time::Duration::from_micros(50));
-        }
-        drop(pipe);
-        let mut found = String::new();
-        child.stdout.take().unwrap().read_to_string(&mut found).unwrap();
-        assert!(child.wait().unwrap().success() && found == expected, "in pieces of {piece}: {found}");
+        let output = in_pieces(&mut Command::new(program("listing")), &bytes, piece);
+        assert_eq!(String::from_utf8_lossy(&output.stdout), expected, "in pieces of {piece}");
     }
 }

@@ -3,13 +3,12 @@
 use maps_tests::limits::{H, K};
 use maps_tests::made::{self, chain, damaged, greatest, input, nearly, numbers, respelled, small, spelled, table, Size};
 use maps_tests::plan::refusal_line;
-use maps_tests::programs::{compare_lines, program, root};
+use maps_tests::programs::{compare_lines, in_pieces, program, root};
 use maps_tests::random::Random;
 use maps_tests::reader::{self, Difference, Node, Sheet};
 use std::collections::BTreeSet;
 use std::fs;
-use std::io::Write;
-use std::process::{Command, Stdio};
+use std::process::Command;
 
 const SEED: u64 = 20260110;
 
@@ -423,16 +422,8 @@ fn a_sheet_in_pieces() {
     let expected: String = counts(&sheet).iter().map(Count::line).collect();
     assert!(!expected.is_empty());
     for piece in [1, 7, 64] {
-        let mut child = Command::new(program("looks")).stdin(Stdio::piped()).stdout(Stdio::piped()).spawn().expect("the program runs");
-        let mut pipe = child.stdin.take().unwrap();
-        for part in bytes.chunks(piece) {
-            pipe.write_all(part).unwrap();
-            pipe.flush().unwrap();
-            std::thread::sleep(std::time::Duration::from_micros(50));
-        }
-        drop(pipe);
-        let output = child.wait_with_output().unwrap();
-        assert!(output.status.success() && output.stdout == expected.as_bytes(), "in pieces of {piece}: {output:?}");
+        let output = in_pieces(&mut Command::new(program("looks")), &bytes, piece);
+        assert_eq!(String::from_utf8_lossy(&output.stdout), expected, "in pieces of {piece}");
     }
 }
 

@@ -60,7 +60,9 @@ fn run(leaves: u32, top: u32, horizon: u32, table: u32, level: u32) {
     let n = io::read_full(0, &mut text);
     let answer = importer::import_blif(&text[..n], leaves, top, horizon, table, level, &mut sheet);
     match answer {
-        Outcome::Refused(why) => report::print_refusal(2, why),
+        Outcome::Refused(why) => {
+            report::print_refusal(2, why);
+        }
         Outcome::Written(length) => write_first(&sheet, length),
     }
 }

@@ -111,7 +111,9 @@ fn show_sheet(bytes: &[u8]) {
     let mut differences = [0u32; 4096];
     let reading = read_sheet(bytes, &mut graph, &mut differences);
     match reading {
-        Reading::Refused(why) => report::print_refusal(1, why),
+        Reading::Refused(why) => {
+            report::print_refusal(1, why);
+        }
         Reading::Sheet(header) => show_nodes(&graph, header.nodes, header.leaves),
     }
 }

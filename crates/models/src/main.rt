@@ -26,7 +26,9 @@ fn show(text: &[u8]) {
     let mut sheet = [0u8; 256];
     let answer = importer::import_blif(text, 4, 8, 9, 1000, 500, &mut sheet);
     match answer {
-        Outcome::Refused(why) => report::print_refusal(1, why),
+        Outcome::Refused(why) => {
+            report::print_refusal(1, why);
+        }
         Outcome::Written(n) => {
             io::write_all(1, b"sheet");
             print_first(&sheet, n);

@@ -1,5 +1,6 @@
 // The listing of a sheet's plan, or the line of its refusal, on standard output.
 ghost use mathlib.Core.Path.{_≡_};
+ghost use Rattle.maps.specs.Code.{numberOf};
 ghost use Rattle.maps.specs.Outcome.{outcome, outcomeNumber};
 use bytes::Outcome;
 use maps::Refusal;
@@ -86,13 +87,17 @@ fn print_first(bytes: &[u8], n: usize) {
     }
 }
 
-// The line of a refusal, on a descriptor: number, then place.
-pub fn print_refusal(fd: i32, why: Refusal) {
+// Prints the line of a refusal on a descriptor: number, then place; the number.
+pub fn print_refusal(fd: i32, why: Refusal) -> u32
+    ensures { λ r. ⌜ r ≡ numberOf why ⌝ }
+{
+    let number = why.number();
     io::write_all(fd, b"refused ");
-    io::print_decimal(fd, why.number() as u64);
+    io::print_decimal(fd, number as u64);
     io::write_all(fd, b" ");
     io::print_decimal(fd, why.place() as u64);
     io::write_all(fd, b"\n");
+    number
 }
 
 // Plans a sheet and prints what came of it, the listing or the line of the refusal; its number.
@@ -102,10 +107,7 @@ pub fn report(sheet: &[u8]) -> u32
     let mut buffer = [0u8; 8192];
     let answer = planner::plan(sheet, &mut buffer);
     match answer {
-        Outcome::Refused(why) => {
-            print_refusal(1, why);
-            why.number()
-        }
+        Outcome::Refused(why) => print_refusal(1, why),
         Outcome::Written(n) => {
             print_first(&buffer, n);
             0

@@ -8,8 +8,8 @@ use Rattle.report.proofs.report.Tie as tie
 
 returns : tie.Need-returns
 returns c =
-    let told = c .before .before .before in
-    c .number .ensures ∙ (rw (told .answer .given .1, length-replicate {A = ℕ} 8192 0) at (told .before .before .before .plan .ensures .0))
+    let told = c .before .before in
+    c .print-refusal .ensures ∙ (rw (told .answer .given .1, length-replicate {A = ℕ} 8192 0) at (told .before .before .before .plan .ensures .0))
 
 returns-2 : tie.Need-returns-2
 returns-2 c =
@@ -23,7 +23,6 @@ report-spec =
     (λ c. search needs)
     (λ c κs. search needs)
     (λ c. search needs)
-    (λ c κs. search needs)
     (λ c κs. search needs)
     (λ c. search needs)
     (λ c. search needs)
