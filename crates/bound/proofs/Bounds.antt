@@ -5,7 +5,7 @@ use mathlib.Core.List.{List, List·Memᴰ}
 use native.Mathlib.Omega.{arith}
 use lib.ListN.{length, getD}
 use Rattle.maps.specs.Label.{Label, _≼_}
-use Rattle.maps.specs.Sheet.{Sheet, Difference, node, size, latency}
+use Rattle.maps.specs.Sheet.{Sheet, Difference, node, size, latency, clockToQ}
 use Rattle.maps.specs.Legal.{readyOf}
 use Rattle.maps.proofs.Member.{All-at, mem-out, mem-in, mem-index, index-mem}
 use Rattle.maps.proofs.Order.{ready-step}
@@ -127,7 +127,7 @@ module _ (S : Sheet) (graph differences : List ℕ) (limits : R.Header) (given :
               let u = getD (node S v .operands) j 0 in
               let m = index-mem 0 (node S v .operands) j k in
               let low : u < v = closed .ordered v u (mem-in (node S v .operands) m) in
-              omega (arith, operand-is j k, up u (omega arith) .steps, ready-step (latency S u) (Q u), All-at (λ u. readyOf S Q u .step ≤ Q v .step) (node S v .operands) (ok .after) m)
+              omega (arith, operand-is j k, up u (omega arith) .steps, ready-step (latency S u) (clockToQ S u) (Q u), All-at (λ u. readyOf S Q u .step ≤ Q v .step) (node S v .operands) (ok .after) m)
 
       pub asks-small : r < 4294967295
       asks-small = push-small (ops .least 4294967294 (omega (arith, own-small)) operand)

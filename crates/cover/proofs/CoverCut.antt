@@ -10,7 +10,7 @@ use lib.Seq.{length-take-le, getD-take}
 use Rattle.maps.specs.Limits.{leavesRange}
 use Rattle.maps.specs.Lists.{All}
 use Rattle.maps.specs.Label.{Label, earliest, plus, ready, _≼_}
-use Rattle.maps.specs.Sheet.{Sheet, size, node, latency}
+use Rattle.maps.specs.Sheet.{Sheet, size, node, latency, clockToQ}
 use Rattle.maps.specs.Cut.{FittingCut, logicNode, cut}
 use Rattle.maps.specs.Legal.{arrives, Carries}
 use Rattle.maps.specs.Least.{at}
@@ -58,7 +58,7 @@ module _ {S : Sheet} {graph steps levels : List ℕ} {limits : R.Header} (laid :
   arrival-at : (u : ℕ) → u < size S → arrivalIn graph steps levels (limits .top) (delayIn graph v) u ≡ arrives S (at L) v u
   arrival-at u m =
       arrives-in placed steps levels u (omega (arith, laid .given .well .size .most))
-      ∙ ap (λ (a : Label). plus (S .top) (ready (latency S u) a) (node S v .delay)) (sym (label-at u m))
+      ∙ ap (λ (a : Label). plus (S .top) (ready (latency S u) (clockToQ S u) a) (node S v .delay)) (sym (label-at u m))
 
   may-carries : (u : ℕ) → u < size S → may u ≡ true → arrives S (at L) v u ≼ at L v
   may-carries u m e =

@@ -56,12 +56,12 @@ module _ (S : Sheet) (L : List Label) (v : ℕ) where
   box-needs : (k : Kind) → isBox k ≡ true → (needs S L k v ≡ node S v .operands) × (isLogic k ≡ false)
   box-needs input e = clash e
   box-needs logic e = clash e
-  box-needs (box lat) e = (refl, refl)
+  box-needs (box lat q) e = (refl, refl)
 
   logic-needs : (k : Kind) → isLogic k ≡ true → needs S L k v ≡ chosenCut S L v
   logic-needs input e = clash e
   logic-needs logic e = refl
-  logic-needs (box lat) e = clash e
+  logic-needs (box lat q) e = clash e
 
   input-needs : (k : Kind) → k ≡ input → (needs S L k v ≡ []) × (isLogic k ≡ false)
   input-needs k e = (ap (λ (k : Kind). needs S L k v) e, ap isLogic e)

@@ -7,7 +7,7 @@ use native.Mathlib.Omega.{arith}
 use lib.ListN.{length, getD, set}
 use lib.Seq.{getD-set-other}
 use Rattle.maps.specs.Label.{Label, leq, plus, ready, _≼_}
-use Rattle.maps.specs.Sheet.{Sheet, Kind, isLogic, logic, node, size, latency}
+use Rattle.maps.specs.Sheet.{Sheet, Kind, isLogic, logic, node, size, latency, clockToQ}
 use Rattle.maps.specs.Cut.{cut}
 use Rattle.maps.proofs.Order.{leq-true, ≼-leq}
 use Rattle.maps.proofs.Member.{All-at, All-of, All-get}
@@ -73,7 +73,7 @@ module _ {S : Sheet} {graph : List ℕ} {v : ℕ} {limits : R.Header} (placed : 
         let a = labelIn steps levels u in
         ap (λ (d : ℕ). plus (limits .top) (ready (latencyIn graph u) a) d) (placed .tabled .delays v placed-in)
         ∙ ap (λ (lat : ℕ). plus (limits .top) (ready lat a) (node S v .delay)) (placed .tabled .latencies u l)
-        ∙ ap (λ (t : ℕ). plus t (ready (latency S u) a) (node S v .delay)) (placed .tops)
+        ∙ ap (λ (t : ℕ). plus t (ready (latency S u) (clockToQ S u) a) (node S v .delay)) (placed .tops)
 
     module _ (a : Label) where
       pub asked-by : {code : List ℕ} → CodesBy graph steps levels code v (limits .top) a → Asked S (inTime graph steps levels v (limits .top) a) v graph code

@@ -28,7 +28,7 @@ use Rattle.level.proofs.LevelCodes.{placed-in}
 logic-kind : (k : Kind) → isLogic k ≡ true → k ≡ logic
 logic-kind input e = let z : _≡_ {A = ℕ} 0 1 = cc in absurd (omega arith)
 logic-kind logic e = refl
-logic-kind (box lat) e = let z : _≡_ {A = ℕ} 0 1 = cc in absurd (omega arith)
+logic-kind (box lat q) e = let z : _≡_ {A = ℕ} 0 1 = cc in absurd (omega arith)
 
 module _ {S : Sheet} {graph : List ℕ} {v : ℕ} {limits : R.Header} (placed : Placed S graph v limits) where
   pub placed-kind : node S v .kind ≡ logic

@@ -60,7 +60,7 @@ along-stop (ask r f) (x ∷ xs) e ys a h p =
 
 along-head : (top : ℕ) (v : NodeRecord) → Along (headForm top) (headNumbers top v) (headMeant v)
 unfolding headForm
-along-head top v = (refl, (refl, (refl, (refl, (refl, refl)))))
+along-head top v = (refl, (refl, (refl, (refl, (refl, (refl, refl))))))
 
 -- a list of numbers under one rule, and a list of rows
 each-same : {A : Type 0} (f : A → Entry) (i : ℕ) (xs : List A) → map f xs ≡ eachNumbers (λ j x. f x ∷ []) i xs

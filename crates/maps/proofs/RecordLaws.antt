@@ -11,7 +11,7 @@ use lib.IntN.{ℤ, pos, negsuc}
 use lib.ListN.{length, getD, length-map}
 use borrow.Author.Tests.{le-leb, lt-ltb}
 use Rattle.maps.specs.Lists.{All, concat}
-use Rattle.maps.specs.Sheet.{Sheet, Kind, input, logic, box, Node, Difference, noNode, latencyOf}
+use Rattle.maps.specs.Sheet.{Sheet, Kind, input, logic, box, Node, Difference, noNode, latencyOf, clockToQOf}
 use Rattle.maps.specs.Limits.{Range, kindRange, markRange, idRange, weightMost, weightRange, rangesOf}
 use Rattle.maps.specs.Form.{among, under, passes}
 use Rattle.maps.specs.Read.{kindOf}
@@ -19,16 +19,17 @@ use Rattle.maps.specs.WellFormed.{Within, codeOf, WellNode, WellDifferen
 use Rattle.maps.specs.Records.{NodeRecord, DifferenceRecord, Records, nodeMeant, plusOf, minusOf, differenceMeant, sheetMeant, nodeRecord, weightOf, differenceRecord, recordsOf}
 use Rattle.maps.specs.Write.{entry, headerNumbers, nodeNumbers, codeOfWeight, differenceNumbers, eachNumbers, numbers, Passes}
 use Rattle.maps.proofs.Member.{All-join, All-split}
-use Rattle.maps.proofs.Parse.{coded, in-range}
-use Rattle.maps.proofs.Shown.{mark-back, latency-back}
+use Rattle.maps.proofs.Parse.{coded, latency-back, clock-back, in-range}
+use Rattle.maps.proofs.Shown.{mark-back}
 
--- Records, sheet, records: a kind in its range has its code back, a mark is 0 or 1, and only a box has a latency.
+-- Records, sheet, records: a kind in its range has its code back, a mark is 0 or 1, and only a box has a latency and a clock-to-Q level.
 node-again : (top own : ℕ) (v : NodeRecord) → All Passes (nodeNumbers top own v) → nodeRecord (nodeMeant v) ≡ v
 node-again top own v p =
-    let k = coded (v .kind) (v .latency) (in-range kindRange (v .kind) (p .0) .most) in
+    let k = coded (v .kind) (v .latency) (v .clockToQ) (in-range kindRange (v .kind) (p .0) .most) in
     let m = mark-back (v .mark) (in-range markRange (v .mark) (p .1 .0) .most) in
-    let l = latency-back top (v .kind) (v .latency) (in-range (rangesOf top (v .kind) .latency) (v .latency) (p .1 .1 .1 .0)) in
-    rw (k, m, l)
+    let l = latency-back top (v .kind) (v .latency) (v .clockToQ) (in-range (rangesOf top (v .kind) .latency) (v .latency) (p .1 .1 .1 .0)) in
+    let q = clock-back top (v .kind) (v .latency) (v .clockToQ) (in-range (rangesOf top (v .kind) .clockToQ (v .latency)) (v .clockToQ) (p .1 .1 .1 .1 .0)) in
+    rw (k, m, l, q)
 
 nodes-again : (top own : ℕ) (vs : List NodeRecord) → All Passes (eachNumbers (nodeNumbers top) own vs) → map nodeRecord (map nodeMeant vs) ≡ vs
 nodes-again top own [] p = refl
@@ -56,10 +57,10 @@ records-again R p =
     rw (nodes-again (R .top) 0 (R .nodes) (v .0), differences-again (R .differences))
 
 -- Sheet, records, sheet: of plus and minus one is 0.
-kind-again : (k : Kind) → kindOf (codeOf k) (latencyOf k) ≡ k
+kind-again : (k : Kind) → kindOf (codeOf k) (latencyOf k) (clockToQOf k) ≡ k
 kind-again input = refl
 kind-again logic = refl
-kind-again (box lat) = refl
+kind-again (box lat q) = refl
 
 output-again : (b : Bool) → eqb (cond b 1 0) 1 ≡ b
 output-again true = refl
@@ -96,7 +97,7 @@ range-passes r x h = rw (le-leb (r .low) x (h .least), le-leb x (r .high) (h .mo
 kind-passes : (k : Kind) → passes (among kindRange) (codeOf k) ≡ true
 kind-passes input = refl
 kind-passes logic = refl
-kind-passes (box lat) = refl
+kind-passes (box lat q) = refl
 
 mark-passes : (b : Bool) → passes (among markRange) (cond b 1 0) ≡ true
 mark-passes true = refl
@@ -116,8 +117,11 @@ node-passes top own v w = (
       (
         range-passes _ _ (w .latency),
         (
-          range-passes _ _ (w .count),
-          operands-pass own (v .operands) (w .operands),
+          range-passes _ _ (w .clockToQ),
+          (
+            range-passes _ _ (w .count),
+            operands-pass own (v .operands) (w .operands),
+          ),
         ),
       ),
     ),

@@ -7,14 +7,14 @@ use native.Mathlib.Omega.{arith}
 use lib.Dec.{eqb}
 use lib.ListN.{length, length-map}
 use borrow.Author.Tests.{eqb-true, eqb-false}
-use Rattle.maps.specs.Sheet.{Sheet, Node, Difference, latencyOf}
+use Rattle.maps.specs.Sheet.{Sheet, Node, Difference, latencyOf, clockToQOf}
 use Rattle.maps.specs.Limits.{leavesRange, topRange, horizonRange, sizeRange, countRange, kindRange, markRange, idRange, weightRange, rangesOf}
 use Rattle.maps.specs.Form.{Rule, among, under, passes, Form, done, ask, _>>=_, asked, each, times, Leads}
 use Rattle.maps.specs.Read.{kindOf, Head, nodeOf, headForm, nodeForm, ahead, back, differenceForm, Header, headerForm, sheetOf, sheetForm}
 use Rattle.maps.specs.WellFormed.{Within, codeOf}
 use Rattle.maps.specs.Records.{nodeRecord, weightOf, differenceRecord, recordsOf}
 use Rattle.maps.specs.Write.{Entry, entry, nodeNumbers, codeOfWeight, differenceNumbers, eachNumbers, numbers, valuesOf}
-use Rattle.maps.proofs.Parse.{coded, in-range}
+use Rattle.maps.proofs.Parse.{coded, latency-back, clock-back, in-range}
 use Rattle.maps.proofs.Along.{each-rows, afterNodes, afterHeader}
 
 -- whatever the form ends in has the property with the numbers that led there
@@ -95,19 +95,14 @@ shows-each N f h i (suc n) =
     bind (each f (i + 1) n) (λ rest. done (a ∷ rest)) (shows-each N f h (i + 1) n) λ rest ms q.
     shows-done (a ∷ rest) (record { counted = ap suc (q .counted); listed = rw (append-nil ms, e, q .listed) })
 
--- a mark is 0 or 1, and only a box has a latency
+-- a mark is 0 or 1
 pub mark-back : (x : ℕ) → x ≤ 1 → cond (eqb x 1) 1 0 ≡ x
 mark-back zero l = refl
 mark-back (suc zero) l = refl
 mark-back (suc (suc x)) l = absurd (omega arith)
 
-pub latency-back : (top kind lat : ℕ) → Within (rangesOf top kind .latency) lat → latencyOf (kindOf kind lat) ≡ lat
-latency-back top zero lat h = omega (arith, h .most)
-latency-back top (suc zero) lat h = omega (arith, h .most)
-latency-back top (suc (suc k)) lat h = refl
-
 abbrev headList : Head → List ℕ
-headList h = codeOf (h .kind) ∷ cond (h .output) 1 0 ∷ h .delay ∷ latencyOf (h .kind) ∷ h .count ∷ []
+headList h = codeOf (h .kind) ∷ cond (h .output) 1 0 ∷ h .delay ∷ latencyOf (h .kind) ∷ clockToQOf (h .kind) ∷ h .count ∷ []
 
 shows-head : (top : ℕ) → Shows (λ h ns. ns ≡ headList h) (headForm top)
 unfolding headForm
@@ -116,12 +111,14 @@ shows-head top =
     bind (asked (among markRange)) _ (shows-asked (among markRange)) λ mark nm hm.
     bind (asked (among (rangesOf top kind .delay))) _ (shows-asked _) λ d nd hd.
     bind (asked (among (rangesOf top kind .latency))) _ (shows-asked _) λ lat nl hl.
+    bind (asked (among (rangesOf top kind .clockToQ lat))) _ (shows-asked _) λ q nq hq.
     bind (asked (among (rangesOf top kind .operands))) _ (shows-asked _) λ count nc hc.
     shows-done _
-    (let c : codeOf (kindOf kind lat) ≡ kind = coded kind lat (in-range kindRange kind (hk .good) .most) in
+    (let c : codeOf (kindOf kind lat q) ≡ kind = coded kind lat q (in-range kindRange kind (hk .good) .most) in
     let m : cond (eqb mark 1) 1 0 ≡ mark = mark-back mark (in-range markRange mark (hm .good) .most) in
-    let l : latencyOf (kindOf kind lat) ≡ lat = latency-back top kind lat (in-range (rangesOf top kind .latency) lat (hl .good)) in
-    rw (hk .alone, hm .alone, hd .alone, hl .alone, hc .alone, c, m, l))
+    let l : latencyOf (kindOf kind lat q) ≡ lat = latency-back top kind lat q (in-range (rangesOf top kind .latency) lat (hl .good)) in
+    let z : clockToQOf (kindOf kind lat q) ≡ q = clock-back top kind lat q (in-range (rangesOf top kind .clockToQ lat) q (hq .good)) in
+    rw (hk .alone, hm .alone, hd .alone, hl .alone, hq .alone, hc .alone, c, m, l, z))
 
 abbrev nodeList : (top own : ℕ) → Node → List ℕ
 nodeList top own v = valuesOf (nodeNumbers top own (nodeRecord v))

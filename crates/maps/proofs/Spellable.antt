@@ -37,11 +37,13 @@ fits : (r : Range) (x : ℕ) → r .high < values → passes (among r) x ≡ tru
 fits r x l p = omega (arith, in-range r x p .most)
 
 -- a node's ranges, of any kind
-pub ranges-fit : (top kind : ℕ) → top ≤ topRange .high
-    → (rangesOf top kind .delay .high < values) × (rangesOf top kind .latency .high < values) × (rangesOf top kind .operands .high < values)
-ranges-fit top zero l = omega arith
-ranges-fit top (suc zero) l = omega arith
-ranges-fit top (suc (suc k)) l = omega arith
+pub ranges-fit : (top kind lat : ℕ) → top ≤ topRange .high
+    → (rangesOf top kind .delay .high < values) × (rangesOf top kind .latency .high < values) × (rangesOf top kind .clockToQ lat .high < values)
+    × (rangesOf top kind .operands .high < values)
+ranges-fit top zero lat l = omega arith
+ranges-fit top (suc zero) lat l = omega arith
+ranges-fit top (suc (suc k)) zero l = omega arith
+ranges-fit top (suc (suc k)) (suc lat) l = omega arith
 
 spells-head : (top : ℕ) → top ≤ topRange .high → Spells Any (headForm top)
 unfolding headForm
@@ -50,10 +52,13 @@ spells-head top l = λ kind pk. (
   λ mark pm. (
     fits markRange mark (omega arith) pm,
     λ d pd. (
-      fits (rangesOf top kind .delay) d (ranges-fit top kind l .0) pd,
+      fits (rangesOf top kind .delay) d (ranges-fit top kind 0 l .0) pd,
       λ lat pl. (
-        fits (rangesOf top kind .latency) lat (ranges-fit top kind l .1) pl,
-        λ count pc. (fits (rangesOf top kind .operands) count (ranges-fit top kind l .2) pc, tt),
+        fits (rangesOf top kind .latency) lat (ranges-fit top kind 0 l .1) pl,
+        λ q pq. (
+          fits (rangesOf top kind .clockToQ lat) q (ranges-fit top kind lat l .2) pq,
+          λ count pc. (fits (rangesOf top kind .operands) count (ranges-fit top kind lat l .3) pc, tt),
+        ),
       ),
     ),
   ),

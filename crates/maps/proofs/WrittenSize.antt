@@ -40,7 +40,7 @@ pub plan-most : planMost ≡ 4611
 unfolding encodedUpTo
 plan-most = refl
 
-pub sheet-most : sheetMost ≡ 11785
+pub sheet-most : sheetMost ≡ 12041
 unfolding encodedUpTo
 sheet-most = refl
 
@@ -51,28 +51,33 @@ within-bytes = written-grows (width - 1)
 pub id-bytes : {x : ℕ} → x < sizeRange .high → bytesFor x ≤ idBytesMost
 id-bytes l = within-bytes (omega arith)
 
--- d, lat and the count of operands of a node of any kind
-ranges-low : (top kind : ℕ) → top ≤ topRange .high
-    → (rangesOf top kind .delay .high ≤ topRange .high) × (rangesOf top kind .latency .high ≤ latencyMost) × (rangesOf top kind .operands .high ≤ operandsMost)
-ranges-low top zero l = omega arith
-ranges-low top (suc zero) l = omega arith
-ranges-low top (suc (suc k)) l = omega arith
+-- d, lat, q and the count of operands of a node of any kind
+ranges-low : (top kind lat : ℕ) → top ≤ topRange .high
+    → (rangesOf top kind .delay .high ≤ topRange .high) × (rangesOf top kind .latency .high ≤ latencyMost)
+    × (rangesOf top kind .clockToQ lat .high ≤ topRange .high) × (rangesOf top kind .operands .high ≤ operandsMost)
+ranges-low top zero lat l = omega arith
+ranges-low top (suc zero) lat l = omega arith
+ranges-low top (suc (suc k)) zero l = omega arith
+ranges-low top (suc (suc k)) (suc lat) l = omega arith
 
-pub ranges-bytes : (top kind : ℕ) → top ≤ topRange .high
+pub ranges-bytes : (top kind lat : ℕ) → top ≤ topRange .high
     → (bytesFor (rangesOf top kind .delay .high) ≤ bytesFor (topRange .high))
     × (bytesFor (rangesOf top kind .latency .high) ≤ bytesFor latencyMost)
+    × (bytesFor (rangesOf top kind .clockToQ lat .high) ≤ bytesFor (topRange .high))
     × (bytesFor (rangesOf top kind .operands .high) ≤ bytesFor operandsMost)
-ranges-bytes top kind l = let h = ranges-low top kind l in (within-bytes (h .0), within-bytes (h .1), within-bytes (h .2))
+ranges-bytes top kind lat l =
+    let h = ranges-low top kind lat l in
+    (within-bytes (h .0), within-bytes (h .1), within-bytes (h .2), within-bytes (h .3))
 
 -- what the rules of a node's numbers allow: its head, and ids of which the count passes
-pub head-most : (top kind mark d lat count : ℕ) → top ≤ topRange .high → bytesMost (headEntries top kind mark d lat count) ≤ headBytesMost
-head-most top kind mark d lat count l = omega (arith, ranges-bytes top kind l)
+pub head-most : (top kind mark d lat q count : ℕ) → top ≤ topRange .high → bytesMost (headEntries top kind mark d lat q count) ≤ headBytesMost
+head-most top kind mark d lat q count l = omega (arith, ranges-bytes top kind lat l)
 
-pub head-ids-most : (top kind mark d lat count : ℕ) → top ≤ topRange .high → passes (among (rangesOf top kind .operands)) count ≡ true
-    → bytesMost (headEntries top kind mark d lat count) + count * idBytesMost ≤ nodeBytesMost
-head-ids-most top kind mark d lat count l p =
+pub head-ids-most : (top kind mark d lat q count : ℕ) → top ≤ topRange .high → passes (among (rangesOf top kind .operands)) count ≡ true
+    → bytesMost (headEntries top kind mark d lat q count) + count * idBytesMost ≤ nodeBytesMost
+head-ids-most top kind mark d lat q count l p =
     let c = few top kind (in-range (rangesOf top kind .operands) count p .most) in
-    omega (arith, head-most top kind mark d lat count l, mul-le-mul-right idBytesMost c)
+    omega (arith, head-most top kind mark d lat q count l, mul-le-mul-right idBytesMost c)
 
 -- one part after another, and ids
 pub most-append : (es ds : List Entry) → bytesMost (es ++ ds) ≡ bytesMost es + bytesMost ds
@@ -116,10 +121,10 @@ node-bytes top own v l o p =
     let us = map (entry (under own)) (v .operands) in
     omega (
       arith,
-      passes-bytes (nodeNumbers top own v) p (All-join _ (headNumbers top v) us (tt, (tt, (tt, (tt, (tt, tt))))) (ids-placed own (v .operands) (omega arith))),
+      passes-bytes (nodeNumbers top own v) p (All-join _ (headNumbers top v) us (tt, (tt, (tt, (tt, (tt, (tt, tt)))))) (ids-placed own (v .operands) (omega arith))),
       most-append (headNumbers top v) us,
       ids-most own (v .operands),
-      head-ids-most top (v .kind) (v .mark) (v .delay) (v .latency) (length (v .operands)) l (p .1 .1 .1 .1 .0),
+      head-ids-most top (v .kind) (v .mark) (v .delay) (v .latency) (v .clockToQ) (length (v .operands)) l (p .1 .1 .1 .1 .1 .0),
     )
 
 nodes-bytes : (top own : ℕ) (vs : List NodeRecord) → top ≤ topRange .high → own + length vs ≤ sizeRange .high → All Passes (eachNumbers (nodeNumbers top) own vs)

@@ -51,14 +51,21 @@ operandsMost = 6
 abbrev pub latencyMost : ℕ
 latencyMost = 255
 
--- the table: d, lat and operands of a node
+-- document 02, U5: q is "0 to T for a box with lat of 1 or more, 0 for all others"
+abbrev pub clockToQRange : (top lat : ℕ) → Range
+clockToQRange top zero = range 0 0
+clockToQRange top (suc l) = range 0 top
+
+-- the table: d, lat, q by lat, and operands of a node
 pub record Ranges : Type 0 where
   pub delay : Range
   pub latency : Range
+  pub clockToQ : (lat : ℕ) → Range
   pub operands : Range
 
 -- by kind: 0 (input), 1 (logic), 2 (box)
 abbrev pub rangesOf : (top kind : ℕ) → Ranges
-rangesOf top zero = record { delay = range 0 0; latency = range 0 0; operands = range 0 0 }
-rangesOf top (suc zero) = record { delay = range 1 top; latency = range 0 0; operands = range 1 operandsMost }
-rangesOf top (suc (suc k)) = record { delay = range 0 top; latency = range 0 latencyMost; operands = range 0 operandsMost }
+rangesOf top zero = record { delay = range 0 0; latency = range 0 0; clockToQ = λ lat. range 0 0; operands = range 0 0 }
+rangesOf top (suc zero) = record { delay = range 1 top; latency = range 0 0; clockToQ = λ lat. range 0 0; operands = range 1 operandsMost }
+rangesOf top (suc (suc k)) =
+    record { delay = range 0 top; latency = range 0 latencyMost; clockToQ = clockToQRange top; operands = range 0 operandsMost }

@@ -5,7 +5,7 @@ use mathlib.Core.List.{List, map}
 use lib.Dec.{eqb}
 use lib.IntN.{ℤ, pos, negsuc}
 use lib.ListN.{length}
-use Rattle.maps.specs.Sheet.{Sheet, Node, Difference, latencyOf}
+use Rattle.maps.specs.Sheet.{Sheet, Node, Difference, latencyOf, clockToQOf}
 use Rattle.maps.specs.Read.{kindOf, Head, nodeOf}
 use Rattle.maps.specs.WellFormed.{codeOf}
 
@@ -15,6 +15,7 @@ pub record NodeRecord : Type 0 where
   pub mark : ℕ
   pub delay : ℕ
   pub latency : ℕ
+  pub clockToQ : ℕ
   pub operands : List ℕ
 
 pub record DifferenceRecord : Type 0 where
@@ -31,7 +32,8 @@ pub record Records : Type 0 where
 
 -- the sheet that records mean
 abbrev pub headMeant : NodeRecord → Head
-headMeant v = record { kind = kindOf (v .kind) (v .latency); output = eqb (v .mark) 1; delay = v .delay; count = length (v .operands) }
+headMeant v =
+    record { kind = kindOf (v .kind) (v .latency) (v .clockToQ); output = eqb (v .mark) 1; delay = v .delay; count = length (v .operands) }
 
 abbrev pub nodeMeant : NodeRecord → Node
 nodeMeant v = nodeOf (headMeant v) (v .operands)
@@ -61,7 +63,14 @@ sheetMeant R =
 -- the records of a sheet
 abbrev pub nodeRecord : Node → NodeRecord
 nodeRecord v =
-    record { kind = codeOf (v .kind); mark = cond (v .output) 1 0; delay = v .delay; latency = latencyOf (v .kind); operands = v .operands }
+    record {
+      kind = codeOf (v .kind);
+      mark = cond (v .output) 1 0;
+      delay = v .delay;
+      latency = latencyOf (v .kind);
+      clockToQ = clockToQOf (v .kind);
+      operands = v .operands;
+    }
 
 -- w is plus - minus, of which one is 0
 abbrev pub weightOf : (plus minus : ℕ) → ℤ

@@ -42,10 +42,10 @@ abbrev pub headerBytesMost : ℕ
 headerBytesMost =
     bytesFor (leavesRange .high) + bytesFor (topRange .high) + bytesFor (horizonRange .high) + bytesFor (sizeRange .high) + bytesFor (countRange .high)
 
--- kind, mark, d, lat and operand count of a node of any kind, then its operand ids
+-- kind, mark, d, lat, q and operand count of a node of any kind, then its operand ids
 abbrev pub headBytesMost : ℕ
 headBytesMost =
-    bytesFor (kindRange .high) + bytesFor (markRange .high) + bytesFor (topRange .high) + bytesFor latencyMost + bytesFor operandsMost
+    bytesFor (kindRange .high) + bytesFor (markRange .high) + bytesFor (topRange .high) + bytesFor latencyMost + bytesFor (topRange .high) + bytesFor operandsMost
 
 abbrev pub nodeBytesMost : ℕ
 nodeBytesMost = headBytesMost + operandsMost * idBytesMost

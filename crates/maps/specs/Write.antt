@@ -35,18 +35,19 @@ headerEntries k t h n m =
 abbrev pub headerNumbers : Records → List Entry
 headerNumbers R = headerEntries (R .leaves) (R .top) (R .horizon) (length (R .nodes)) (length (R .differences))
 
--- "kind .., output mark .., d, lat, operand count"
-abbrev pub headEntries : (top kind mark delay latency count : ℕ) → List Entry
-headEntries top kind mark d lat count =
+-- "kind .., output mark .., d, lat", q, "operand count"
+abbrev pub headEntries : (top kind mark delay latency clockToQ count : ℕ) → List Entry
+headEntries top kind mark d lat q count =
     entry (among kindRange) kind
     ∷ entry (among markRange) mark
     ∷ entry (among (rangesOf top kind .delay)) d
     ∷ entry (among (rangesOf top kind .latency)) lat
+    ∷ entry (among (rangesOf top kind .clockToQ lat)) q
     ∷ entry (among (rangesOf top kind .operands)) count
     ∷ []
 
 abbrev pub headNumbers : (top : ℕ) → NodeRecord → List Entry
-headNumbers top v = headEntries top (v .kind) (v .mark) (v .delay) (v .latency) (length (v .operands))
+headNumbers top v = headEntries top (v .kind) (v .mark) (v .delay) (v .latency) (v .clockToQ) (length (v .operands))
 
 -- ".. operand ids" of the node `own`
 abbrev pub nodeNumbers : (top own : ℕ) → NodeRecord → List Entry

@@ -18,9 +18,9 @@ unfoldable pub holds : Case → Bool
 unfolding writing
 holds (writes G room o) = isOutcome (writing G room) o
 
--- kind, mark, d, lat, operands; u, v, w; K, T, H, nodes, differences
-abbrev node : (kind mark d lat : ℕ) → List ℕ → NodeRecord
-node k o d l us = record { kind = k; mark = o; delay = d; latency = l; operands = us }
+-- kind, mark, d, lat, q, operands; u, v, w; K, T, H, nodes, differences
+abbrev node : (kind mark d lat q : ℕ) → List ℕ → NodeRecord
+node k o d l q us = record { kind = k; mark = o; delay = d; latency = l; clockToQ = q; operands = us }
 
 abbrev gap : (u v : ℕ) → ℤ → DifferenceRecord
 gap u v w = record { from = u; to = v; weight = w }
@@ -29,23 +29,23 @@ abbrev given : (k t h : ℕ) → List NodeRecord → List DifferenceRecord → R
 given k t h vs ds = record { leaves = k; top = t; horizon = h; nodes = vs; differences = ds }
 
 abbrev inputNode : NodeRecord
-inputNode = node 0 0 0 0 []
+inputNode = node 0 0 0 0 0 []
 
 abbrev hallNodes : List NodeRecord
 hallNodes =
-    inputNode ∷ inputNode ∷ inputNode ∷ node 1 0 1 0 (0 ∷ 1 ∷ []) ∷ node 1 0 1 0 (3 ∷ 2 ∷ []) ∷ node 1 1 1 0 (4 ∷ 3 ∷ []) ∷ []
+    inputNode ∷ inputNode ∷ inputNode ∷ node 1 0 1 0 0 (0 ∷ 1 ∷ []) ∷ node 1 0 1 0 0 (3 ∷ 2 ∷ []) ∷ node 1 1 1 0 0 (4 ∷ 3 ∷ []) ∷ []
 
 abbrev hall : Records
 hall = given 3 2 4 hallNodes (gap 0 5 (pos 1) ∷ [])
 
--- "The hall sheet in hexadecimal, 44 bytes"
+-- "The hall sheet in hexadecimal, 44 bytes", and q = 0 in each of its six nodes
 abbrev hallSheet : List ℕ
 hallSheet =
     (0x03 ∷ 0x02 ∷ 0x04 ∷ 0x06 ∷ 0x01 ∷ [])
-    ++ (0x00 ∷ 0x00 ∷ 0x00 ∷ 0x00 ∷ 0x00 ∷ 0x00 ∷ 0x00 ∷ 0x00 ∷ 0x00 ∷ 0x00 ∷ 0x00 ∷ 0x00 ∷ 0x00 ∷ 0x00 ∷ 0x00 ∷ [])
-    ++ (0x01 ∷ 0x00 ∷ 0x01 ∷ 0x00 ∷ 0x02 ∷ 0x00 ∷ 0x01 ∷ [])
-    ++ (0x01 ∷ 0x00 ∷ 0x01 ∷ 0x00 ∷ 0x02 ∷ 0x03 ∷ 0x02 ∷ [])
-    ++ (0x01 ∷ 0x01 ∷ 0x01 ∷ 0x00 ∷ 0x02 ∷ 0x04 ∷ 0x03 ∷ [])
+    ++ replicate 18 0x00
+    ++ (0x01 ∷ 0x00 ∷ 0x01 ∷ 0x00 ∷ 0x00 ∷ 0x02 ∷ 0x00 ∷ 0x01 ∷ [])
+    ++ (0x01 ∷ 0x00 ∷ 0x01 ∷ 0x00 ∷ 0x00 ∷ 0x02 ∷ 0x03 ∷ 0x02 ∷ [])
+    ++ (0x01 ∷ 0x01 ∷ 0x01 ∷ 0x00 ∷ 0x00 ∷ 0x02 ∷ 0x04 ∷ 0x03 ∷ [])
     ++ (0x00 ∷ 0x05 ∷ 0x02 ∷ [])
 
 -- an input and one more node; an input and one difference
@@ -56,13 +56,13 @@ abbrev apart : DifferenceRecord → Records
 apart d = given 2 1 65535 (inputNode ∷ []) (d ∷ [])
 
 abbrev apartSheet : List ℕ → List ℕ
-apartSheet w = (2 ∷ 1 ∷ 0xff ∷ 0xff ∷ 0x03 ∷ 1 ∷ 1 ∷ 0 ∷ 0 ∷ 0 ∷ 0 ∷ 0 ∷ 0 ∷ 0 ∷ []) ++ w
+apartSheet w = (2 ∷ 1 ∷ 0xff ∷ 0xff ∷ 0x03 ∷ 1 ∷ 1 ∷ 0 ∷ 0 ∷ 0 ∷ 0 ∷ 0 ∷ 0 ∷ 0 ∷ 0 ∷ []) ++ w
 
 unfoldable pub cases : List Case
 cases =
     -- the hall sheet; 8 one byte short
-    writes hall 44 (accepted hallSheet)
-    ∷ writes hall 43 (refusal 8 44)
+    writes hall 50 (accepted hallSheet)
+    ∷ writes hall 49 (refusal 8 50)
     -- the header: the first in the sheet's order decides; n and m are numbers 3 and 4; a number without a spelling
     ∷ writes (given 7 2 4 [] []) 64 (refusal 3 0)
     ∷ writes (given 3 2 4 [] []) 64 (refusal 3 3)
@@ -70,23 +70,30 @@ cases =
     ∷ writes (given 3 2 4 (inputNode ∷ []) (replicate 1025 (gap 0 0 (pos 0)))) 64 (refusal 3 4)
     ∷ writes (given 3 3000000 4 [] []) 64 (refusal 3 1)
     ∷ writes (given 3 2 65536 [] []) 64 (refusal 3 2)
-    -- a node: kind, mark, d, lat; an operand on an input and seven on a table, at the count
-    ∷ writes (two (node 3 0 0 0 [])) 64 (refusal 3 10)
-    ∷ writes (two (node 0 2 0 0 [])) 64 (refusal 3 11)
-    ∷ writes (two (node 1 0 2 0 (0 ∷ []))) 64 (refusal 3 12)
-    ∷ writes (two (node 1 0 1 1 (0 ∷ []))) 64 (refusal 3 13)
-    ∷ writes (two (node 0 0 0 0 (9 ∷ []))) 64 (refusal 3 14)
-    ∷ writes (two (node 1 0 1 0 (9 ∷ 9 ∷ 9 ∷ 9 ∷ 9 ∷ 9 ∷ 9 ∷ []))) 64 (refusal 3 14)
-    ∷ writes (two (node 1 0 1 0 [])) 64 (refusal 3 14)
+    -- a node: kind, mark, d, lat, q; an operand on an input and seven on a table, at the count
+    ∷ writes (two (node 3 0 0 0 0 [])) 64 (refusal 3 11)
+    ∷ writes (two (node 0 2 0 0 0 [])) 64 (refusal 3 12)
+    ∷ writes (two (node 1 0 2 0 0 (0 ∷ []))) 64 (refusal 3 13)
+    ∷ writes (two (node 1 0 1 1 0 (0 ∷ []))) 64 (refusal 3 14)
+    ∷ writes (given 2 1 0 (node 0 0 0 0 1 [] ∷ []) []) 64 (refusal 3 9)
+    ∷ writes (given 2 1 0 (node 0 0 0 0 0 (0 ∷ []) ∷ []) []) 64 (refusal 3 10)
+    ∷ writes (two (node 1 0 1 0 1 (0 ∷ []))) 64 (refusal 3 15)
+    ∷ writes (two (node 2 0 0 0 1 (0 ∷ []))) 64 (refusal 3 15)
+    ∷ writes (two (node 2 0 0 1 2 (0 ∷ []))) 64 (refusal 3 15)
+    ∷ writes (two (node 2 0 0 255 1 (0 ∷ []))) 64
+    (accepted (2 ∷ 1 ∷ 0 ∷ 2 ∷ 0 ∷ 0 ∷ 0 ∷ 0 ∷ 0 ∷ 0 ∷ 0 ∷ 2 ∷ 0 ∷ 0 ∷ 0xff ∷ 0x01 ∷ 1 ∷ 1 ∷ 0 ∷ []))
+    ∷ writes (two (node 0 0 0 0 0 (9 ∷ []))) 64 (refusal 3 16)
+    ∷ writes (two (node 1 0 1 0 0 (9 ∷ 9 ∷ 9 ∷ 9 ∷ 9 ∷ 9 ∷ 9 ∷ []))) 64 (refusal 3 16)
+    ∷ writes (two (node 1 0 1 0 0 [])) 64 (refusal 3 16)
     -- operands: the node itself, an id without a spelling, the second of two; 4 before 8
-    ∷ writes (two (node 1 0 1 0 (1 ∷ []))) 64 (refusal 4 15)
-    ∷ writes (two (node 1 0 1 0 (3000000 ∷ []))) 64 (refusal 4 15)
-    ∷ writes (two (node 1 0 1 0 (0 ∷ 1 ∷ []))) 0 (refusal 4 16)
+    ∷ writes (two (node 1 0 1 0 0 (1 ∷ []))) 64 (refusal 4 17)
+    ∷ writes (two (node 1 0 1 0 0 (3000000 ∷ []))) 64 (refusal 4 17)
+    ∷ writes (two (node 1 0 1 0 0 (0 ∷ 1 ∷ []))) 0 (refusal 4 18)
     -- differences: u, v, w; the least and the greatest w
-    ∷ writes (apart (gap 1 0 (pos 0))) 64 (refusal 3 10)
-    ∷ writes (apart (gap 0 1 (pos 0))) 64 (refusal 3 11)
-    ∷ writes (apart (gap 0 0 (pos 65536))) 64 (refusal 3 12)
-    ∷ writes (apart (gap 0 0 (negsuc 65535))) 64 (refusal 3 12)
+    ∷ writes (apart (gap 1 0 (pos 0))) 64 (refusal 3 11)
+    ∷ writes (apart (gap 0 1 (pos 0))) 64 (refusal 3 12)
+    ∷ writes (apart (gap 0 0 (pos 65536))) 64 (refusal 3 13)
+    ∷ writes (apart (gap 0 0 (negsuc 65535))) 64 (refusal 3 13)
     ∷ writes (apart (gap 0 0 (pos 65535))) 64 (accepted (apartSheet (0xfe ∷ 0xff ∷ 0x07 ∷ [])))
     ∷ writes (apart (gap 0 0 (negsuc 65534))) 64 (accepted (apartSheet (0xfd ∷ 0xff ∷ 0x07 ∷ [])))
     -- the greatest code of two bytes and the least of three

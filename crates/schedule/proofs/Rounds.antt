@@ -16,7 +16,7 @@ use Rattle.maps.specs.Limits.{weightMost}
 use Rattle.maps.specs.Label.{Label, label, _≼_}
 use Rattle.maps.specs.Lists.{All, below}
 use Rattle.maps.specs.WellFormed.{WellDifference}
-use Rattle.maps.specs.Sheet.{Sheet, Difference, node, size, latency}
+use Rattle.maps.specs.Sheet.{Sheet, Difference, node, size, latency, clockToQ}
 use Rattle.maps.specs.Cut.{reads}
 use Rattle.maps.specs.Legal.{readyOf, Least, latencyOfAll, NoneLegal}
 use Rattle.maps.specs.Least.{at, leastLabels, late, least}
@@ -429,7 +429,7 @@ latency-is-most S graph steps levels n few t e =
     each v l =
         omega (
           arith,
-          ready-step (latency S v) (at (labelsIn n steps levels) v),
+          ready-step (latency S v) (clockToQ S v) (at (labelsIn n steps levels) v),
           ap (λ (a : Label). a .step) (getD-over (labelIn steps levels) (label 0 0) n v l),
           t .latencies v (omega arith),
         )
