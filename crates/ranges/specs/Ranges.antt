@@ -1,7 +1,6 @@
 -- The code's tables of field ranges, against document 01's.
 use Prim.Native.Nat.{ℕ, zero, suc, min}
 use Rattle.maps.specs.Limits.{Range, range, leavesRange, topRange, horizonRange, sizeRange, countRange, kindRange, markRange, idRange, weightRange, operandsMost, latencyMost}
-use Rattle.maps.specs.Limits as Limits
 use Rattle.ranges.specs.declared.Span.{Span}
 use Rattle.ranges.specs.declared.Ranges.{Ranges}
 use Rattle.ranges.specs.declared.Field.{Field}
@@ -25,20 +24,20 @@ fieldRange Is.Mark = markRange
 fieldRange Is.Id = idRange (sizeRange .high)
 fieldRange Is.Weight = weightRange
 
-abbrev row : (delay latency operands : Range) → Ranges
-row d l o = record { delay = spanOf d; latency = spanOf l; operands = spanOf o }
+abbrev row : (delay latency clock operands : Range) → Ranges
+row d l c o = record { delay = spanOf d; latency = spanOf l; clock = spanOf c; operands = spanOf o }
 
--- by the kind's code: input, logic, box; a delay is at most the greatest T
+-- by the kind's code: input, logic, box; a delay and a q are at most the greatest T
 abbrev pub kindRanges : ℕ → Ranges
-kindRanges zero = row (range 0 0) (range 0 0) (range 0 0)
-kindRanges (suc zero) = row (range 1 (topRange .high)) (range 0 0) (range 1 operandsMost)
-kindRanges (suc (suc k)) = row (range 0 (topRange .high)) (range 0 latencyMost) (range 0 operandsMost)
+kindRanges zero = row (range 0 0) (range 0 0) (range 0 0) (range 0 0)
+kindRanges (suc zero) = row (range 1 (topRange .high)) (range 0 0) (range 0 0) (range 1 operandsMost)
+kindRanges (suc (suc k)) = row (range 0 (topRange .high)) (range 0 latencyMost) (range 0 (topRange .high)) (range 0 operandsMost)
 
--- what a row says where a step has the levels up to top: a delay is also at most top
-abbrev pub rangesMeant : (top : ℕ) → Ranges → Limits.Ranges
-rangesMeant top r =
-    record {
-      delay = range (r .delay .low) (min top (r .delay .high));
-      latency = spanMeant (r .latency);
-      operands = spanMeant (r .operands);
-    }
+-- the values of a row's range that are also at most top
+abbrev pub upTo : (top : ℕ) → Span → Range
+upTo top s = range (s .low) (min top (s .high))
+
+-- the range of q where a step has the levels up to top, by lat
+abbrev pub clockMeant : (top : ℕ) → Span → (lat : ℕ) → Range
+clockMeant top s zero = range 0 0
+clockMeant top s (suc l) = upTo top s

@@ -2,7 +2,7 @@
 // reads or writes a sheet takes them from here.
 ghost use mathlib.Core.Path.{_≡_};
 ghost use Prim.Native.Nat.{min};
-ghost use Rattle.ranges.specs.Ranges.{kindRanges, spanOf, fieldRange};
+ghost use Rattle.ranges.specs.Ranges.{kindRanges, spanOf, clockMeant, fieldRange};
 
 // The values from low to high.
 pub struct Span {
@@ -10,10 +10,11 @@ pub struct Span {
     pub high: u32,
 }
 
-// The ranges of a node's fields. A delay is also at most T.
+// The ranges of a node's fields: d, lat, q where lat is 1 or more, operand count. A delay and a q are also at most T.
 pub struct Ranges {
     pub delay: Span,
     pub latency: Span,
+    pub clock: Span,
     pub operands: Span,
 }
 
@@ -22,16 +23,19 @@ const KIND_RANGES: [Ranges; 3] = [
     Ranges {
         delay: Span { low: 0, high: 0 },
         latency: Span { low: 0, high: 0 },
+        clock: Span { low: 0, high: 0 },
         operands: Span { low: 0, high: 0 },
     },
     Ranges {
         delay: Span { low: 1, high: 64 },
         latency: Span { low: 0, high: 0 },
+        clock: Span { low: 0, high: 0 },
         operands: Span { low: 1, high: 6 },
     },
     Ranges {
         delay: Span { low: 0, high: 64 },
         latency: Span { low: 0, high: 255 },
+        clock: Span { low: 0, high: 64 },
         operands: Span { low: 0, high: 6 },
     },
 ];
@@ -95,6 +99,19 @@ pub fn range_of(field: Field) -> Span
         Field::Mark => FIELD_RANGES[6],
         Field::Id => FIELD_RANGES[7],
         Field::Weight => FIELD_RANGES[8],
+    }
+}
+
+impl Ranges {
+    // The range of q, where a step has the levels up to top: 0 alone for a node without a latency.
+    pub fn clock_to_q(self, latency: u32, top: u32) -> Span
+        ensures { λ r. ⌜ r ≡ spanOf (clockMeant top (self .clock) latency) ⌝ }
+    {
+        if latency == 0 {
+            return Span { low: 0, high: 0 };
+        }
+        let clocks = self.clock;
+        clocks.up_to(top)
     }
 }
 

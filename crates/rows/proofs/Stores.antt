@@ -13,11 +13,12 @@ store-four g p a b c d =
     let three : p + 2 + 1 ≡ p + 3 = omega arith in
     rw (two, three)
 
-pub store-five : (g : List ℕ) (p a b c d e : ℕ)
-    → set (set (set (set (set g p a) (p + 1) b) (p + 2) c) (p + 3) d) (p + 4) e ≡ storeFrom g p (a ∷ b ∷ c ∷ d ∷ e ∷ [])
+pub store-six : (g : List ℕ) (p a b c d e f : ℕ)
+    → set (set (set (set (set (set g p a) (p + 1) b) (p + 2) c) (p + 3) d) (p + 4) e) (p + 5) f ≡ storeFrom g p (a ∷ b ∷ c ∷ d ∷ e ∷ f ∷ [])
 unfolding storeFrom
-store-five g p a b c d e =
+store-six g p a b c d e f =
     let two : p + 1 + 1 ≡ p + 2 = omega arith in
     let three : p + 2 + 1 ≡ p + 3 = omega arith in
     let four : p + 3 + 1 ≡ p + 4 = omega arith in
-    rw (two, three, four)
+    let five : p + 4 + 1 ≡ p + 5 = omega arith in
+    rw (two, three, four, five)

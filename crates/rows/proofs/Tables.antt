@@ -9,7 +9,7 @@ use lib.Dec.{eqb, ltb}
 use lib.ListN.{length, getD, List·getD-eq-default}
 use borrow.Author.Tests.{eqb-true, ne-eqb, ltb-true, ltb-false}
 use Rattle.maps.specs.Lists.{All}
-use Rattle.maps.specs.Sheet.{Sheet, Kind, input, logic, box, isLogic, latencyOf, Node, noNode, node, size}
+use Rattle.maps.specs.Sheet.{Sheet, Kind, input, logic, box, isLogic, latencyOf, clockToQOf, Node, noNode, node, size}
 use Rattle.maps.specs.Read.{kindOf}
 use Rattle.maps.specs.Limits.{operandsMost, rangesOf}
 use Rattle.maps.specs.WellFormed.{Within, codeOf, WellNode, WellFormed}
@@ -25,7 +25,7 @@ few top own v h = go (v .kind) (h .count)
     go : (k : Kind) → Within (rangesOf top (codeOf k) .operands) (length (v .operands)) → length (v .operands) ≤ operandsMost
     go input w = omega (arith, w .most)
     go logic w = w .most
-    go (box lat) w = w .most
+    go (box lat q) w = w .most
 
 module _ (S : Sheet) (well : WellFormed S) where
   short : All (λ v. length (nodeRow v) ≤ nodeStride) (S .nodes)
@@ -40,7 +40,8 @@ module _ (S : Sheet) (well : WellFormed S) where
   blank (suc (suc zero)) = refl
   blank (suc (suc (suc zero))) = refl
   blank (suc (suc (suc (suc zero)))) = refl
-  blank (suc (suc (suc (suc (suc j))))) = refl
+  blank (suc (suc (suc (suc (suc zero))))) = refl
+  blank (suc (suc (suc (suc (suc (suc j)))))) = refl
 
   -- the number j of node v's row
   cell : (v j : ℕ) → j < length (nodeRow (node S v)) → getD (graphOf S) (v * nodeStride + j) 0 ≡ getD (nodeRow (node S v)) j 0
@@ -61,8 +62,9 @@ module _ (S : Sheet) (well : WellFormed S) where
         marks = λ v l. cell v 1 (omega arith);
         delays = λ v l. cell v 2 (omega arith);
         latencies = λ v l. cell v 3 (omega arith);
-        counts = λ v l. cell v 4 (omega arith);
-        operands = λ v j l m. subst (λ (q : ℕ). getD (graphOf S) q 0 ≡ getD (node S v .operands) j 0) (omega arith) (cell v (suc (suc (suc (suc (suc j))))) (omega arith));
+        clocks = λ v l. cell v 4 (omega arith);
+        counts = λ v l. cell v 5 (omega arith);
+        operands = λ v j l m. subst (λ (q : ℕ). getD (graphOf S) q 0 ≡ getD (node S v .operands) j 0) (omega arith) (cell v (suc (suc (suc (suc (suc (suc j)))))) (omega arith));
       }
 
   differences-short : All (λ d. length (differenceRow d) ≤ differenceStride) (S .differences)
@@ -108,7 +110,7 @@ falling S g well t =
 pub logic-code : (k : Kind) → eqb (codeOf k) 1 ≡ isLogic k
 logic-code input = refl
 logic-code logic = refl
-logic-code (box lat) = refl
+logic-code (box lat q) = refl
 
 pub code-logic : (k : Kind) → codeOf k ≡ 1 → isLogic k ≡ true
 code-logic k e = sym (logic-code k) ∙ rw e
@@ -116,18 +118,18 @@ code-logic k e = sym (logic-code k) ∙ rw e
 pub logic-one : (k : Kind) → isLogic k ≡ true → codeOf k ≡ 1
 logic-one k e = eqb-true _ _ (logic-code k ∙ e)
 
--- the kind of a node, from its code and its latency
-pub kind-back : (k : Kind) → kindOf (codeOf k) (latencyOf k) ≡ k
+-- the kind of a node, from its code, its latency and its q
+pub kind-back : (k : Kind) → kindOf (codeOf k) (latencyOf k) (clockToQOf k) ≡ k
 kind-back input = refl
 kind-back logic = refl
-kind-back (box lat) = refl
+kind-back (box lat q) = refl
 
 -- the kind in the table of a sheet is the node's
 pub kind-tabled : (S : Sheet) (g : List ℕ) → Tabled S g → (v : ℕ) → v < 256 → kindAt g v ≡ node S v .kind
-kind-tabled S g t v l = rw (t .kinds v l, t .latencies v l) (kind-back (node S v .kind))
+kind-tabled S g t v l = rw (t .kinds v l, t .latencies v l, t .clocks v l) (kind-back (node S v .kind))
 
 -- a code is 1 exactly if its kind is logic, and 2 or more exactly if it is a box
-pub code-is-logic : (code lat : ℕ) → isLogic (kindOf code lat) ≡ eqb code 1
-code-is-logic zero lat = refl
-code-is-logic (suc zero) lat = refl
-code-is-logic (suc (suc k)) lat = sym (ne-eqb (suc (suc k)) 1 (λ e. omega arith))
+pub code-is-logic : (code lat q : ℕ) → isLogic (kindOf code lat q) ≡ eqb code 1
+code-is-logic zero lat q = refl
+code-is-logic (suc zero) lat q = refl
+code-is-logic (suc (suc k)) lat q = sym (ne-eqb (suc (suc k)) 1 (λ e. omega arith))

@@ -4,7 +4,7 @@ use mathlib.Core.Path.{_≡_}
 use mathlib.Core.Bool.{Bool, cond}
 use mathlib.Core.List.{List, [], _∷_, map}
 use lib.ListN.{length, getD, set, replicate}
-use Rattle.maps.specs.Sheet.{Sheet, Kind, Node, Difference, size, node, latency, latencyOf}
+use Rattle.maps.specs.Sheet.{Sheet, Kind, Node, Difference, size, node, latency, latencyOf, clockToQ, clockToQOf}
 use Rattle.maps.specs.Read.{kindOf, Head, Header}
 use Rattle.maps.specs.WellFormed.{codeOf}
 use Rattle.maps.specs.Limits.{operandsMost}
@@ -25,11 +25,14 @@ delayColumn = 2
 abbrev pub latencyColumn : ℕ
 latencyColumn = 3
 
+abbrev pub clockColumn : ℕ
+clockColumn = 4
+
 abbrev pub countColumn : ℕ
-countColumn = 4
+countColumn = 5
 
 abbrev pub operandColumn : ℕ
-operandColumn = 5
+operandColumn = 6
 
 -- and in a difference's, its u first
 abbrev pub toColumn : ℕ
@@ -51,13 +54,14 @@ differencesWide = 4096
 abbrev pub markOf : Bool → ℕ
 markOf b = cond b 1 0
 
--- kind, output mark, d, lat, operand count
+-- kind, output mark, d, lat, q, operand count
 abbrev pub headRow : Head → List ℕ
-headRow h = codeOf (h .kind) ∷ markOf (h .output) ∷ h .delay ∷ latencyOf (h .kind) ∷ h .count ∷ []
+headRow h = codeOf (h .kind) ∷ markOf (h .output) ∷ h .delay ∷ latencyOf (h .kind) ∷ clockToQOf (h .kind) ∷ h .count ∷ []
 
 -- the same and the operands
 abbrev pub nodeRow : Node → List ℕ
-nodeRow v = codeOf (v .kind) ∷ markOf (v .output) ∷ v .delay ∷ latencyOf (v .kind) ∷ length (v .operands) ∷ v .operands
+nodeRow v =
+    codeOf (v .kind) ∷ markOf (v .output) ∷ v .delay ∷ latencyOf (v .kind) ∷ clockToQOf (v .kind) ∷ length (v .operands) ∷ v .operands
 
 abbrev pub differenceRow : Difference → List ℕ
 differenceRow d = d .from ∷ d .to ∷ d .plus ∷ d .minus ∷ []
@@ -113,12 +117,15 @@ module _ (g : List ℕ) (v : ℕ) where
   abbrev pub latencyIn : ℕ
   latencyIn = getD g (nodePlace v + latencyColumn) 0
 
+  abbrev pub clockIn : ℕ
+  clockIn = getD g (nodePlace v + clockColumn) 0
+
   abbrev pub countIn : ℕ
   countIn = getD g (nodePlace v + countColumn) 0
 
-  -- the kind, from its code and the latency
+  -- the kind, from its code, the latency and q
   abbrev pub kindAt : Kind
-  kindAt = kindOf kindIn latencyIn
+  kindAt = kindOf kindIn latencyIn clockIn
 
   abbrev pub operandIn : ℕ → ℕ
   operandIn j = getD g (operandPlace v + j) 0
@@ -130,6 +137,7 @@ pub record Tabled (S : Sheet) (g : List ℕ) : Type 0 where
   pub marks : (v : ℕ) → v < 256 → markIn g v ≡ markOf (node S v .output)
   pub delays : (v : ℕ) → v < 256 → delayIn g v ≡ node S v .delay
   pub latencies : (v : ℕ) → v < 256 → latencyIn g v ≡ latency S v
+  pub clocks : (v : ℕ) → v < 256 → clockIn g v ≡ clockToQ S v
   pub counts : (v : ℕ) → v < 256 → countIn g v ≡ length (node S v .operands)
   pub operands : (v j : ℕ) → v < 256 → j < length (node S v .operands) → operandIn g v j ≡ getD (node S v .operands) j 0
 

@@ -4,12 +4,12 @@ ghost use mathlib.Core.List.{[], _∷_};
 ghost use Prim.Native.Nat.{_+_, _≤_, _<_};
 ghost use lib.Dec.{eqb};
 ghost use lib.ListN.{length};
-ghost use Rattle.maps.specs.Sheet.{latencyOf};
+ghost use Rattle.maps.specs.Sheet.{latencyOf, clockToQOf};
 ghost use Rattle.maps.specs.WellFormed.{codeOf};
 ghost use Rattle.maps.specs.Read.{kindOf};
 ghost use Rattle.maps.specs.Code.{kindMeant};
 ghost use Rattle.rows.specs.Code.{headMeant, differenceMeant};
-ghost use Rattle.rows.specs.Table.{markOf, storeFrom, headRow, differenceRow, nodePlace, operandPlace, differencePlace, kindAt, markIn, delayIn, latencyIn, countIn, operandIn, fromIn, toIn, plusIn, minusIn};
+ghost use Rattle.rows.specs.Table.{markOf, storeFrom, headRow, differenceRow, nodePlace, operandPlace, differencePlace, kindAt, markIn, delayIn, latencyIn, clockIn, countIn, operandIn, fromIn, toIn, plusIn, minusIn};
 use maps::Kind;
 use maps::Level;
 use maps::Node;
@@ -24,7 +24,7 @@ pub struct Header {
     pub differences: u32,
 }
 
-// A row for each of 256 nodes: kind, mark, d, lat, operand count, the operands, and numbers that are 0.
+// A row for each of 256 nodes: kind, mark, d, lat, q, operand count, the operands, and numbers that are 0.
 pub type Graph = [u32; 4096];
 
 // A row for each of 1,024 differences: from, to, plus, minus.
@@ -39,9 +39,11 @@ const DELAY: usize = 2;
 
 const LATENCY: usize = 3;
 
-const COUNT: usize = 4;
+const CLOCK: usize = 4;
 
-const OPERANDS: usize = 5;
+const COUNT: usize = 5;
+
+const OPERANDS: usize = 6;
 
 // The same of a difference; its u stands first.
 const DIFFERENCE: usize = 4;
@@ -61,8 +63,8 @@ pub struct Difference {
 }
 
 // The kind that a code in the sheet stands for; every code from 2 on is a box's.
-pub fn kind_of(code: u32, latency: u32) -> Kind
-    ensures { λ r. ⌜ kindMeant r ≡ kindOf code latency ⌝ }
+pub fn kind_of(code: u32, latency: u32, q: u32) -> Kind
+    ensures { λ r. ⌜ kindMeant r ≡ kindOf code latency q ⌝ }
 {
     if code == 0 {
         return Kind::Input;
@@ -72,6 +74,7 @@ pub fn kind_of(code: u32, latency: u32) -> Kind
     }
     Kind::Box {
         latency: Step(latency),
+        clock_to_q: Level(q),
     }
 }
 
@@ -81,7 +84,10 @@ pub fn code_of(kind: Kind) -> u32
     match kind {
         Kind::Input => 0,
         Kind::Logic => 1,
-        Kind::Box { latency: _ } => 2,
+        Kind::Box {
+            latency: _,
+            clock_to_q: _,
+        } => 2,
     }
 }
 
@@ -91,7 +97,23 @@ pub fn latency_of(kind: Kind) -> u32
     match kind {
         Kind::Input => 0,
         Kind::Logic => 0,
-        Kind::Box { latency } => latency.0,
+        Kind::Box {
+            latency,
+            clock_to_q: _,
+        } => latency.0,
+    }
+}
+
+pub fn clock_to_q_of(kind: Kind) -> u32
+    ensures { λ r. ⌜ r ≡ clockToQOf (kindMeant kind) ⌝ }
+{
+    match kind {
+        Kind::Input => 0,
+        Kind::Logic => 0,
+        Kind::Box {
+            latency: _,
+            clock_to_q,
+        } => clock_to_q.0,
     }
 }
 
@@ -113,6 +135,7 @@ pub fn store_head(graph: &mut [u32], v: u32, node: Node)
     graph[base + MARK] = mark_of(node.output);
     graph[base + DELAY] = delay.0;
     graph[base + LATENCY] = latency_of(kind);
+    graph[base + CLOCK] = clock_to_q_of(kind);
     graph[base + COUNT] = node.operands;
 }
 
@@ -143,7 +166,7 @@ pub fn kind_in(graph: &Graph, v: u32) -> Kind
     ensures { λ r. ⌜ kindMeant r ≡ kindAt (now (graph .entry)) v ⌝ }
 {
     let base = v as usize * NODE;
-    kind_of(graph[base], graph[base + LATENCY])
+    kind_of(graph[base], graph[base + LATENCY], graph[base + CLOCK])
 }
 
 // Whether node v is an output.
@@ -168,6 +191,14 @@ pub fn latency_in(graph: &Graph, v: u32) -> Step
     ensures { λ r. ⌜ r .0 ≡ latencyIn (now (graph .entry)) v ⌝ }
 {
     Step(graph[v as usize * NODE + LATENCY])
+}
+
+// The clock-to-Q level q of node v.
+pub fn clock_to_q_in(graph: &Graph, v: u32) -> Level
+    requires { ⌜ v < 256 ⌝ }
+    ensures { λ r. ⌜ r .0 ≡ clockIn (now (graph .entry)) v ⌝ }
+{
+    Level(graph[v as usize * NODE + CLOCK])
 }
 
 // How many operands node v has.

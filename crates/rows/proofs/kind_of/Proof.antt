@@ -8,13 +8,15 @@ use Rattle.rows.proofs.kind_of.Statement.{statement}
 use Rattle.rows.proofs.kind_of.Tie as tie
 
 -- every other code is a box's
-box-kind : (code lat : ℕ) → (code ≡ 0 → ⊥) → (code ≡ 1 → ⊥) → box lat ≡ kindOf code lat
-box-kind zero lat n m = absurd (n refl)
-box-kind (suc zero) lat n m = absurd (m refl)
-box-kind (suc (suc k)) lat n m = refl
+box-kind : (code lat q : ℕ) → (code ≡ 0 → ⊥) → (code ≡ 1 → ⊥) → box lat q ≡ kindOf code lat q
+box-kind zero lat q n m = absurd (n refl)
+box-kind (suc zero) lat q n m = absurd (m refl)
+box-kind (suc (suc k)) lat q n m = refl
 
 returns-3 : tie.Need-returns-3
-returns-3 c = box-kind (c .before .before .args .code) (c .before .before .args .latency) (c .before .if1 .left) (c .if2 .left)
+returns-3 c =
+    let a = c .before .before .args in
+    box-kind (a .code) (a .latency) (a .q) (c .before .if1 .left) (c .if2 .left)
 
 pub kind-of-spec : {M : Type 1} → statement M
 kind-of-spec =
