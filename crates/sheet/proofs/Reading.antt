@@ -12,7 +12,7 @@ use Rattle.maps.specs.Form.{Form, done, under, _>>=_, asked, each, times, opera
 use Rattle.maps.specs.Read.{Head, nodeOf, headForm, nodeForm, differenceForm, Header, headerForm, sheetOf, sheetForm, Parsed, sheet, refused, whole, parse}
 use Rattle.maps.proofs.Forms.{then-same, read-bind, read-each}
 use Rattle.maps.proofs.Parse.{counted}
-use Rattle.rows.specs.Table.{nodeRow, headRow, differenceRow, storeFrom, storeRows, nodePlace, operandPlace, differencePlace, noNodes, noDifferences, graphOf, differencesOf, headerOf}
+use Rattle.rows.specs.Table.{operandColumn, nodeRow, headRow, differenceRow, storeFrom, storeRows, nodePlace, operandPlace, differencePlace, noNodes, noDifferences, graphOf, differencesOf, headerOf}
 use Rattle.sheet.specs.Answer.{Answer, header, answerNumber, answerPlace, Tables, tables, readAfter}
 use Rattle.sheet.specs.Answer as Answers
 use Rattle.sheet.specs.Fill.{Filled, filled, gotOn, fillOn, repeatInto, operandInto, operandsInto, nodeInto, nodesInto, differenceInto, differencesInto, tablesInto, readInto}
@@ -62,11 +62,11 @@ singles b i g (u ∷ us) =
     singles b (i + 1) (set g (b + i) u) us ∙ rw e
 
 -- the operands go behind the head
-behind : (g : List ℕ) (p : ℕ) (h : Head) (us : List ℕ) → length us ≡ h .count → storeFrom (storeFrom g p (headRow h)) (p + 5 + 0) us ≡ storeFrom g p (nodeRow (nodeOf h us))
+behind : (g : List ℕ) (p : ℕ) (h : Head) (us : List ℕ) → length us ≡ h .count → storeFrom (storeFrom g p (headRow h)) (p + operandColumn + 0) us ≡ storeFrom g p (nodeRow (nodeOf h us))
 unfolding storeFrom
 behind g p h us e =
-    let five : p + 1 + 1 + 1 + 1 + 1 ≡ p + 5 + 0 = omega arith in
-    rw (five, e)
+    let six : p + 1 + 1 + 1 + 1 + 1 + 1 ≡ p + operandColumn + 0 = omega arith in
+    rw (six, e)
 
 module _ (s : List ℕ) where
   operands-filled : (own base count at : ℕ) (g : List ℕ)

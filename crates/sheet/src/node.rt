@@ -82,16 +82,25 @@ pub fn head_at(sheet: &[u8], c: Cursor, top: u32) -> HeadRead
     else {
         return HeadRead::Refused(refusal_of(latency_read));
     };
+    let clocks = all.clock_to_q(latency, top);
+    let clock_read = field_in(sheet, c4, clocks);
+    let Number::Value {
+        value: q,
+        next: c5,
+    } = clock_read
+    else {
+        return HeadRead::Refused(refusal_of(clock_read));
+    };
     let counts = all.operands;
-    let count_read = field_in(sheet, c4, counts);
+    let count_read = field_in(sheet, c5, counts);
     let Number::Value {
         value: operands,
-        next: c5,
+        next: c6,
     } = count_read
     else {
         return HeadRead::Refused(refusal_of(count_read));
     };
-    let kind = kind_of(code, latency);
+    let kind = kind_of(code, latency, q);
     HeadRead::Head(
         Node {
             kind,
@@ -99,7 +108,7 @@ pub fn head_at(sheet: &[u8], c: Cursor, top: u32) -> HeadRead
             delay: Level(delay),
             operands,
         },
-        c5,
+        c6,
     )
 }
 
