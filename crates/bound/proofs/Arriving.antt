@@ -11,7 +11,7 @@ use Rattle.maps.specs.Code.{fitted}
 use Rattle.maps.proofs.Order.{≼-refl, ≼-trans, leq-true, ≼-leq, leq-decides, later-is, later-left, later-right, ready-step}
 use Rattle.maps.proofs.Over.{last-or}
 use Rattle.maps.proofs.Fix.{label-path}
-use Rattle.rows.specs.Table.{latencyIn, delayIn, operandIn}
+use Rattle.rows.specs.Table.{latencyIn, clockIn, delayIn, operandIn}
 use Rattle.bound.specs.Lookup.{labelIn, arrivalIn, Soon}
 use Rattle.bound.specs.Bound.{Carrying, Latest}
 
@@ -26,16 +26,14 @@ plus-step top d a = go (leb (a .level + d) top)
     go true = omega arith
     go false = omega arith
 
-pub arrival-is : (graph steps levels : List ℕ) (top delay u lat : ℕ) (own mid r : Label) → own ≡ labelIn steps levels u
-    → lat ≡ latencyIn graph u → mid ≡ fitted (ready lat own) → r ≡ fitted (plus top mid delay) → Soon graph steps u → r ≡ arrivalIn graph steps levels top delay u
+pub arrival-is : (graph steps levels : List ℕ) (top delay u lat clock : ℕ) (own mid r : Label) → own ≡ labelIn steps levels u
+    → lat ≡ latencyIn graph u → clock ≡ clockIn graph u → mid ≡ fitted (ready lat clock own) → r ≡ fitted (plus top mid delay) → Soon graph steps u → r ≡ arrivalIn graph steps levels top delay u
 unfolding arrivalIn
-arrival-is graph steps levels top delay u lat own mid r p f q e soon =
-    let L = labelIn steps levels u in
-    let a : mid ≡ ready (latencyIn graph u) L =
-    q ∙ ap (λ (n : ℕ). fitted (ready n own)) f ∙ ap (λ (x : Label). fitted (ready (latencyIn graph u) x)) p ∙ fitted-same (ready (latencyIn graph u) L) (omega (arith, ready-step (latencyIn graph u) L)) in
-    e ∙ ap (λ (x : Label). fitted (plus top x delay)) a
-    ∙ fitted-same (plus top (ready (latencyIn graph u) L) delay)
-    (omega (arith, plus-step top delay (ready (latencyIn graph u) L), ready-step (latencyIn graph u) L))
+arrival-is graph steps levels top delay u lat clock own mid r p f k q e soon =
+    let R = ready (latencyIn graph u) (clockIn graph u) (labelIn steps levels u) in
+    let s = ready-step (latencyIn graph u) (clockIn graph u) (labelIn steps levels u) in
+    let a : mid ≡ R = q ∙ rw (f, k, p) (fitted-same R (omega (arith, s))) in
+    e ∙ ap (λ (x : Label). fitted (plus top x delay)) a ∙ fitted-same (plus top R delay) (omega (arith, plus-step top delay R, s))
 
 -- the least level of step s by which a has come
 module _ (a : Label) (s top : ℕ) where

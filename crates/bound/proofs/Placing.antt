@@ -1,6 +1,6 @@
 -- A label written to the two tables: what it changes, and that a forced one that ends after the horizon leaves nothing legal.
-use Prim.Native.Nat.{ℕ, _+_, _≤_, _<_, min}
-use mathlib.Core.Path.{_≡_, refl, sym, subst, ap, _∙_}
+use Prim.Native.Nat.{ℕ, _+_, _≤_, _<_}
+use mathlib.Core.Path.{_≡_, refl, sym, subst, _∙_}
 use mathlib.Core.Bool.{Bool, true, false}
 use mathlib.Core.List.{List}
 use native.Mathlib.Omega.{arith}
@@ -8,12 +8,10 @@ use lib.Dec.{eqb}
 use lib.ListN.{length, getD, set, length-set}
 use lib.Seq.{getD-set-same, getD-set-other}
 use borrow.Author.Tests.{eqb-true, eqb-false}
-use Rattle.maps.specs.Label.{Label, label, ready}
-use Rattle.maps.specs.Code.{fitted}
+use Rattle.maps.specs.Label.{Label, label}
 use Rattle.maps.specs.Sheet.{Sheet, size, latency}
 use Rattle.maps.specs.Legal.{NoneLegal}
 use Rattle.maps.proofs.Fix.{label-path}
-use Rattle.maps.proofs.Order.{ready-step}
 use Rattle.rows.specs.declared.Header as R
 use Rattle.relax.specs.Guard.{Guarded, Forced, Raised}
 use Rattle.relax.proofs.Guard.{legal-node, legal-diffs, guarded-under}
@@ -21,10 +19,6 @@ use Rattle.bound.specs.Lookup.{labelIn}
 use Rattle.bound.specs.Bound.{endIn}
 use Rattle.bound.specs.Going.{Given, Timed}
 use Rattle.bound.proofs.Safety.{node-in, latency-is}
-
--- the step at which a node ends, from its ready label
-pub ready-end : {r : Label} (lat : ℕ) (b : Label) → r ≡ fitted (ready lat b) → r .step ≡ min (b .step + lat) 4294967295
-ready-end lat b e = ap (λ (a : Label). a .step) e ∙ ap (λ (s : ℕ). min s 4294967295) (ready-step lat b)
 
 -- a write to the two tables of labels
 raised-tables : (S : Sheet) (steps levels : List ℕ) (v s l : ℕ) → v < length steps → v < length levels

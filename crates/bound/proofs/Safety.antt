@@ -4,10 +4,10 @@ use mathlib.Core.Path.{_≡_, ap}
 use mathlib.Core.List.{List, List·Memᴰ}
 use native.Mathlib.Omega.{arith}
 use lib.ListN.{length, getD}
-use Rattle.maps.specs.Sheet.{Sheet, node, size, latency}
+use Rattle.maps.specs.Sheet.{Sheet, node, size, latency, clockToQ}
 use Rattle.maps.specs.WellFormed.{WellDifference}
 use Rattle.maps.proofs.Member.{All-get, index-mem}
-use Rattle.rows.specs.Table.{latencyIn, delayIn, toIn, noDifference, differenceAt, Falling}
+use Rattle.rows.specs.Table.{latencyIn, clockIn, delayIn, toIn, noDifference, differenceAt, Falling}
 use Rattle.rows.specs.declared.Header as R
 use Rattle.rows.proofs.Tables.{falling}
 use Rattle.relax.specs.Guard.{Kept}
@@ -27,6 +27,9 @@ module _ {S : Sheet} {graph differences : List ℕ} {limits : R.Header} (g : Giv
 
   pub latency-is : (v : ℕ) → v < limits .nodes → latencyIn graph v ≡ latency S v
   latency-is v l = g .tabled .latencies v (node-in v l .1)
+
+  pub clock-is : (v : ℕ) → v < limits .nodes → clockIn graph v ≡ clockToQ S v
+  clock-is v l = g .tabled .clocks v (node-in v l .1)
 
   pub delay-is : (v : ℕ) → v < limits .nodes → delayIn graph v ≡ node S v .delay
   delay-is v l = g .tabled .delays v (node-in v l .1)

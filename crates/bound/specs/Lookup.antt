@@ -8,7 +8,7 @@ use lib.Dec.{eqb}
 use lib.ListN.{length, getD}
 use Rattle.maps.specs.Label.{Label, label, plus, ready}
 use Rattle.maps.specs.Lists.{below}
-use Rattle.rows.specs.Table.{latencyIn, toIn}
+use Rattle.rows.specs.Table.{latencyIn, clockIn, toIn}
 
 -- the label of v
 abbrev pub labelIn : (steps levels : List ℕ) → ℕ → Label
@@ -20,7 +20,7 @@ labelsIn n steps levels = map (labelIn steps levels) (below n)
 
 -- the label at which u arrives at a node of the given delay
 unfoldable pub arrivalIn : (graph steps levels : List ℕ) (top delay u : ℕ) → Label
-arrivalIn graph steps levels top delay u = plus top (ready (latencyIn graph u) (labelIn steps levels u)) delay
+arrivalIn graph steps levels top delay u = plus top (ready (latencyIn graph u) (clockIn graph u) (labelIn steps levels u)) delay
 
 -- the step at which u is ready is a number of the code's
 abbrev pub Soon : (graph steps : List ℕ) → ℕ → Type 0

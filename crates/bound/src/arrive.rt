@@ -11,6 +11,7 @@ use maps::Label;
 use maps::Level;
 use maps::Step;
 use rows::Graph;
+use rows::clock_to_q_in;
 use rows::count_in;
 use rows::delay_in;
 use rows::latency_in;
@@ -69,8 +70,8 @@ pub fn place_label(
     requires { ⌜ v < 256 ⌝ }
     ensures { λ r. ⌜ LabelPlaced (now (graph .entry)) (now (steps .entry)) (now (levels .entry)) (now (steps .exit)) (now (levels .exit)) v (labelOf label) horizon r ⌝ }
 {
-    let ready = label.ready(latency_in(graph, v));
-    let end = ready.step;
+    let start = label.step;
+    let end = start.after(latency_in(graph, v));
     if end.0 > horizon {
         return false;
     }
@@ -116,7 +117,8 @@ pub fn arrival(
 {
     let own = label_of(steps, levels, u);
     let lat = latency_in(graph, u);
-    let ready = own.ready(lat);
+    let q = clock_to_q_in(graph, u);
+    let ready = own.ready(lat, q);
     ready.plus(delay, top)
 }
 

@@ -1,7 +1,7 @@
 -- Document 01's sheet, whose nodes have no q: its form, its spelling, and the outcome of planning it. What it reads as has q = 0 in every node.
 use Prim.Native.Nat.{ℕ, _+_}
 use mathlib.Core.Bool.{cond}
-use mathlib.Core.List.{List, [], _∷_, _++_, map}
+use mathlib.Core.List.{List, _∷_, _++_, map}
 use lib.Dec.{eqb}
 use lib.ListN.{length}
 use Rattle.maps.specs.Lists.{concat}

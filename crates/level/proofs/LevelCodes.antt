@@ -11,7 +11,7 @@ use Rattle.maps.specs.Sheet.{Sheet, Kind, isLogic, logic, node, size, latency, 
 use Rattle.maps.specs.Cut.{cut}
 use Rattle.maps.proofs.Order.{leq-true, ≼-leq}
 use Rattle.maps.proofs.Member.{All-at, All-of, All-get}
-use Rattle.rows.specs.Table.{kindAt, delayIn, latencyIn}
+use Rattle.rows.specs.Table.{kindAt, delayIn, latencyIn, clockIn}
 use Rattle.rows.specs.declared.Header as R
 use Rattle.rows.proofs.Tables.{kind-tabled}
 use Rattle.cut.specs.Question.{codeFor, Asked}
@@ -71,8 +71,9 @@ module _ {S : Sheet} {graph : List ℕ} {v : ℕ} {limits : R.Header} (placed : 
     unfolding arrivalIn
     arrives-in u l =
         let a = labelIn steps levels u in
-        ap (λ (d : ℕ). plus (limits .top) (ready (latencyIn graph u) a) d) (placed .tabled .delays v placed-in)
-        ∙ ap (λ (lat : ℕ). plus (limits .top) (ready lat a) (node S v .delay)) (placed .tabled .latencies u l)
+        ap (λ (d : ℕ). plus (limits .top) (ready (latencyIn graph u) (clockIn graph u) a) d) (placed .tabled .delays v placed-in)
+        ∙ ap (λ (lat : ℕ). plus (limits .top) (ready lat (clockIn graph u) a) (node S v .delay)) (placed .tabled .latencies u l)
+        ∙ ap (λ (q : ℕ). plus (limits .top) (ready (latency S u) q a) (node S v .delay)) (placed .tabled .clocks u l)
         ∙ ap (λ (t : ℕ). plus t (ready (latency S u) (clockToQ S u) a) (node S v .delay)) (placed .tops)
 
     module _ (a : Label) where

@@ -20,20 +20,20 @@ Along (done b) (e ∷ es) a = ⊥
 Along (ask r f) [] a = ⊥
 Along (ask r f) (e ∷ es) a = (e .rule ≡ r) × Along (f (e .value)) es a
 
-along-bind : {A B : Type 0} (f : Form A) (g : A → Form B) (es ds : List Entry) (a : A) (b : B) → Along f es a → Along (g a) ds b
+pub along-bind : {A B : Type 0} (f : Form A) (g : A → Form B) (es ds : List Entry) (a : A) (b : B) → Along f es a → Along (g a) ds b
     → Along (_>>=_ f g) (es ++ ds) b
 along-bind (done c) g [] ds a b h k = subst (λ x. Along (g x) ds b) (sym h) k
 along-bind (done c) g (e ∷ es) ds a b h k = absurd h
 along-bind (ask r f) g [] ds a b h k = absurd h
 along-bind (ask r f) g (e ∷ es) ds a b h k = (h .0, along-bind (f (e .value)) g es ds a b (h .1) k)
 
-along-map : {A B : Type 0} (f : Form A) (k : A → B) (es : List Entry) (a : A) → Along f es a → Along (_>>=_ f (λ x. done (k x))) es (k a)
+pub along-map : {A B : Type 0} (f : Form A) (k : A → B) (es : List Entry) (a : A) → Along f es a → Along (_>>=_ f (λ x. done (k x))) es (k a)
 along-map (done c) k [] a h = ap k h
 along-map (done c) k (e ∷ es) a h = absurd h
 along-map (ask r f) k [] a h = absurd h
 along-map (ask r f) k (e ∷ es) a h = (h .0, along-map (f (e .value)) k es a (h .1))
 
-along-each : {A G : Type 0} (F : ℕ → Form A) (N : ℕ → G → List Entry) (val : G → A) → ((j : ℕ) (g : G) → Along (F j) (N j g) (val g))
+pub along-each : {A G : Type 0} (F : ℕ → Form A) (N : ℕ → G → List Entry) (val : G → A) → ((j : ℕ) (g : G) → Along (F j) (N j g) (val g))
     → (i : ℕ) (gs : List G) → Along (each F i (length gs)) (eachNumbers N i gs) (map val gs)
 along-each F N val h i [] = refl
 along-each F N val h i (g ∷ gs) =
@@ -71,7 +71,7 @@ pub each-rows : {A : Type 0} (f : A → List Entry) (i : ℕ) (xs : List A) → 
 each-rows f i [] = refl
 each-rows f i (x ∷ xs) = ap (λ t. f x ++ t) (each-rows f (i + 1) xs)
 
-along-operands : (own : ℕ) (us : List ℕ) → Along (times (length us) (asked (under own))) (map (entry (under own)) us) us
+pub along-operands : (own : ℕ) (us : List ℕ) → Along (times (length us) (asked (under own))) (map (entry (under own)) us) us
 along-operands own us =
     let F : ℕ → Form ℕ = λ i. asked (under own) in
     let N : ℕ → ℕ → List Entry = λ i u. entry (under own) u ∷ [] in
@@ -100,16 +100,16 @@ along-difference : (n : ℕ) (d : DifferenceRecord) → Along (differenceForm n)
 unfolding differenceForm
 along-difference n d = (refl, (refl, (refl, coded-weight (d .from) (d .to) (d .weight))))
 
-along-differences : (n : ℕ) (ds : List DifferenceRecord)
+pub along-differences : (n : ℕ) (ds : List DifferenceRecord)
     → Along (times (length ds) (differenceForm n)) (concat (map (differenceNumbers n) ds)) (map differenceMeant ds)
 along-differences n ds =
     rw (each-rows (differenceNumbers n) 0 ds)
     (along-each (λ i. differenceForm n) (λ i. differenceNumbers n) differenceMeant (λ j. along-difference n) 0 ds)
 
-abbrev headerMeant : Records → Header
+abbrev pub headerMeant : Records → Header
 headerMeant R = record { leaves = R .leaves; top = R .top; horizon = R .horizon; nodes = length (R .nodes); differences = length (R .differences) }
 
-along-header : (R : Records) → Along headerForm (headerNumbers R) (headerMeant R)
+pub along-header : (R : Records) → Along headerForm (headerNumbers R) (headerMeant R)
 unfolding headerForm
 along-header R = (refl, (refl, (refl, (refl, (refl, refl)))))
 

@@ -66,7 +66,7 @@ output-again : (b : Bool) → eqb (cond b 1 0) 1 ≡ b
 output-again true = refl
 output-again false = refl
 
-node-meant : (v : Node) → nodeMeant (nodeRecord v) ≡ v
+pub node-meant : (v : Node) → nodeMeant (nodeRecord v) ≡ v
 node-meant v = rw (kind-again (v .kind), output-again (v .output))
 
 nodes-meant : (vs : List Node) → map nodeMeant (map nodeRecord vs) ≡ vs
@@ -83,7 +83,7 @@ difference-meant n d w = go (d .plus) (d .minus) (w .signed)
     go p (suc k) (inl e) = rw e
     go p (suc k) (inr e) = absurd (omega arith)
 
-differences-meant : (n : ℕ) (ds : List Difference) → All (WellDifference n) ds → map differenceMeant (map differenceRecord ds) ≡ ds
+pub differences-meant : (n : ℕ) (ds : List Difference) → All (WellDifference n) ds → map differenceMeant (map differenceRecord ds) ≡ ds
 differences-meant n [] w = refl
 differences-meant n (d ∷ ds) w = rw (difference-meant n d (w .0), differences-meant n ds (w .1))
 

@@ -11,7 +11,7 @@ use Rattle.maps.specs.Sheet.{Sheet, Node, Difference, latencyOf, clockTo
 use Rattle.maps.specs.Limits.{leavesRange, topRange, horizonRange, sizeRange, countRange, kindRange, markRange, idRange, weightRange, rangesOf}
 use Rattle.maps.specs.Form.{Rule, among, under, passes, Form, done, ask, _>>=_, asked, each, times, Leads}
 use Rattle.maps.specs.Read.{kindOf, Head, nodeOf, headForm, nodeForm, ahead, back, differenceForm, Header, headerForm, sheetOf, sheetForm}
-use Rattle.maps.specs.WellFormed.{Within, codeOf}
+use Rattle.maps.specs.WellFormed.{codeOf}
 use Rattle.maps.specs.Records.{nodeRecord, weightOf, differenceRecord, recordsOf}
 use Rattle.maps.specs.Write.{Entry, entry, nodeNumbers, codeOfWeight, differenceNumbers, eachNumbers, numbers, valuesOf}
 use Rattle.maps.proofs.Parse.{coded, latency-back, clock-back, in-range}

@@ -1,6 +1,6 @@
 -- The sheet writer and the reader: what is written reads as the records, and what reads is written again, byte for byte.
 use Prim.Native.Nat.{ℕ, _+_, _-_, _≤_, _<_}
-use mathlib.Core.Path.{_≡_, refl, ap, _∙_}
+use mathlib.Core.Path.{_≡_, refl, sym, ap, _∙_}
 use mathlib.Core.Bool.{Bool, true, false, cond}
 use mathlib.Core.List.{List, [], _++_, append-nil}
 use native.Mathlib.Omega.{arith}
@@ -61,17 +61,22 @@ module _ (R : Records) (room : ℕ) where
   unfolding writing
   first-refused k i f = let q : 0 + i ≡ i = omega arith in rw (verdict-fault 0 (numbers R) k i f, q)
 
+-- numbers that lead to the end of a form and have spellings are read as the sheet that it ends in
+pub leads-whole : (f : Form Sheet) (ns : List ℕ) (S : Sheet) → All (λ n. n < values) ns → Leads f ns (done S)
+    → whole (spelled ns) (read f (spelled ns) 0) ≡ sheet S
+leads-whole f ns S m l =
+    let t = rw (zero-add (length (spelled ns))) at (leads-read f (done S) ns m l (spelled ns) 0 [] (sym (append-nil (spelled ns))) .0) in
+    rw (t, le-ltb (length (spelled ns)) (length (spelled ns)) (omega arith))
+
 -- reading after the numbers ns
 pub reads-on : (ns : List ℕ) (g : Form Sheet) (rest : List ℕ) → Leads sheetForm ns g
     → (read sheetForm (spelled ns ++ rest) 0 ≡ read g (spelled ns ++ rest) (length (spelled ns))) × (drop (length (spelled ns)) (spelled ns ++ rest) ≡ rest)
 reads-on ns g rest l = rw (zero-add (length (spelled ns))) at (leads-read sheetForm g ns (leads-small ns g l) l (spelled ns ++ rest) 0 rest refl)
 
--- numbers that lead to the end of the form are read as the sheet
-leads-parse : (ns : List ℕ) (S : Sheet) → Leads sheetForm ns (done S) → parse (spelled ns) ≡ sheet S
+-- numbers that lead to the end of the sheet's form are read as the sheet
+pub leads-parse : (ns : List ℕ) (S : Sheet) → Leads sheetForm ns (done S) → parse (spelled ns) ≡ sheet S
 unfolding parse
-leads-parse ns S l =
-    let t = rw (append-nil (spelled ns)) at (reads-on ns (done S) [] l .0) in
-    rw (t, le-ltb (length (spelled ns)) (length (spelled ns)) (omega arith))
+leads-parse ns S l = leads-whole sheetForm ns S (leads-small ns (done S) l) l
 
 -- a number that is not as asked
 pub reads-fails : (r : Rule) (g : ℕ → Form Sheet) (s : List ℕ) (at x : ℕ) (rest : List ℕ) → drop at s ≡ encoded x ++ rest → x < values
@@ -84,26 +89,26 @@ reads-fails r g s at x rest e l f =
 pub passes-read : (R : Records) → All Passes (numbers R) → parse (spelled (valuesOf (numbers R))) ≡ sheet (sheetMeant R)
 passes-read R p = leads-parse (valuesOf (numbers R)) (sheetMeant R) (along-end sheetForm (numbers R) (sheetMeant R) (along-sheet R) p)
 
--- a sheet that reads is the form gone through to its end
-parse-leads : (bytes : List ℕ) (S : Sheet) → Bytes bytes → parse bytes ≡ sheet S → (ns : List ℕ) × Leads sheetForm ns (done S) × (bytes ≡ spelled ns)
-unfolding parse
-parse-leads bytes S b e = go (read sheetForm bytes 0) (ends sheetForm bytes b 0) e
+-- bytes that read by a form are that form gone through to its end
+pub whole-leads : (f : Form Sheet) (bytes : List ℕ) (S : Sheet) → Bytes bytes → whole bytes (read f bytes 0) ≡ sheet S
+    → (ns : List ℕ) × Leads f ns (done S) × (bytes ≡ spelled ns)
+whole-leads f bytes S b e = go (read f bytes 0) (ends f bytes b 0) e
   where
     never : {A : Type 0} (k p : ℕ) → refused k p ≡ sheet S → A
     never k p q = let z : _≡_ {A = ℕ} 0 1 = cc in absurd (omega arith)
 
-    end : (R : Sheet) (next : ℕ) (t : Bool) → ltb next (length bytes) ≡ t → (ns : List ℕ) → Leads sheetForm ns (done R) → bytes ≡ spelled ns ++ drop next bytes
-        → cond t (refused 5 next) (sheet R) ≡ sheet S → (ns : List ℕ) × Leads sheetForm ns (done S) × (bytes ≡ spelled ns)
+    end : (R : Sheet) (next : ℕ) (t : Bool) → ltb next (length bytes) ≡ t → (ns : List ℕ) → Leads f ns (done R) → bytes ≡ spelled ns ++ drop next bytes
+        → cond t (refused 5 next) (sheet R) ≡ sheet S → (ns : List ℕ) × Leads f ns (done S) × (bytes ≡ spelled ns)
     end R next true h ns l d q = never 5 next q
     end R next false h ns l d q =
         let z : R ≡ S = cc in
         let n : drop next bytes ≡ [] = drop-of-length-le bytes (ltb-false next (length bytes) h) in
         (ns, rw z at l, d ∙ rw (n, append-nil (spelled ns)))
 
-    go : (g : Got Sheet) → Ends sheetForm bytes 0 g → whole bytes g ≡ sheet S → (ns : List ℕ) × Leads sheetForm ns (done S) × (bytes ≡ spelled ns)
+    go : (g : Got Sheet) → Ends f bytes 0 g → whole bytes g ≡ sheet S → (ns : List ℕ) × Leads f ns (done S) × (bytes ≡ spelled ns)
     go (got R next) (L.whole ns l d u) q = end R next (ltb next (length bytes)) refl ns l d q
     go (refusal k p) (L.stop ns r g rest l d u) q = never k p q
-    go (refusal _ _) (L.wrong ns r g x rest l d u f) q = never (ground r) (0 + length (spelled ns)) q
+    go (refusal _ _) (L.wrong ns r g x rest l d u n) q = never (ground r) (0 + length (spelled ns)) q
 
 -- a sheet reads exactly if it is the spelling of a well-formed one
 pub reads-parse : (bytes : List ℕ) (S : Sheet) → ReadsAs bytes S → parse bytes ≡ sheet S
@@ -111,9 +116,9 @@ unfolding spelling
 reads-parse bytes S r = rw (r .spelled) (passes-read (recordsOf S) (well-passes S (r .well)) ∙ ap sheet (sheet-again S (r .well)))
 
 pub parse-reads : (bytes : List ℕ) (S : Sheet) → Bytes bytes → parse bytes ≡ sheet S → ReadsAs bytes S
-unfolding spelling
+unfolding parse spelling
 parse-reads bytes S b e =
-    let t = parse-leads bytes S b e in
+    let t = whole-leads sheetForm bytes S b e in
     record { well = parse-well bytes S e; spelled = t .2 ∙ ap spelled (shows-sheet (t .0) S (t .1)) }
 
 -- ".. and a sheet that reads is reproduced byte for byte"

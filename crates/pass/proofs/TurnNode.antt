@@ -27,7 +27,7 @@ use Rattle.relax.proofs.Passes.{base-forced, base-level, settles-from, settles-
 use Rattle.bound.specs.Lookup.{labelIn, arrivalIn, Beside}
 use Rattle.bound.specs.Bound.{Latest}
 use Rattle.bound.specs.Going.{Given, Keeps, AllKept, Going, Based}
-use Rattle.bound.proofs.Safety.{node-in, latency-is, delay-is}
+use Rattle.bound.proofs.Safety.{node-in, latency-is, clock-is, delay-is}
 use Rattle.level.specs.Carry.{Placed}
 use Rattle.level.proofs.CutRows.{count-beside, leaf-beside}
 
@@ -87,7 +87,7 @@ module _ {S : Sheet} {graph differences : List ℕ} {limits : R.Header} {first n
 
     arrival-is : (u : ℕ) → u < limits .nodes → arrivalIn graph steps levels (limits .top) (delayIn graph v) u ≡ arrives S (labelIn steps levels) v u
     unfolding arrivalIn
-    arrival-is u k = rw (g .top, latency-is g u k, delay-is g v l)
+    arrival-is u k = rw (g .top, latency-is g u k, clock-is g u k, delay-is g v l)
 
     -- operand j arrives where the code says
     operand-is : (j : ℕ) → j < length (node S v .operands)
@@ -106,9 +106,9 @@ module _ {S : Sheet} {graph differences : List ℕ} {limits : R.Header} {first n
         (settles-input S closed (delays S (g .well)) (labelIn steps levels) v inside p (based .step) (based .asks) e)
 
     -- a box: the latest of its base label and its operands' arrivals
-    pub settles-latest : {r : Label} (lat : ℕ) → node S v .kind ≡ box lat → Latest graph steps levels v (limits .top) (countIn graph v) a r
+    pub settles-latest : {r : Label} (lat q : ℕ) → node S v .kind ≡ box lat q → Latest graph steps levels v (limits .top) (countIn graph v) a r
         → Settles S (labelIn steps levels) v r
-    settles-latest {r} lat e latest =
+    settles-latest {r} lat q e latest =
         let b = bound (latest .one) in
         settles-from S closed (delays S (g .well)) (labelIn steps levels) v inside p (based .step) (based .asks) r
         (subst (λ (c : Label). c ≼ r) (based .base) (latest .from)) (b .0) (b .1) (b .2) (subst (By S (labelIn steps levels) v r) (sym e) all)
@@ -132,7 +132,7 @@ module _ {S : Sheet} {graph differences : List ℕ} {limits : R.Header} {first n
             let k : j < length (node S v .operands) = omega (arith, w .1, counted) in
             let u = getD (node S v .operands) j 0 in
             let h = arrives-level S closed (delays S (g .well)) (labelIn steps levels) v inside p (based .step) (based .asks) u in
-            subst Bound (sym (w .2 ∙ operand-is j k)) (forced-operand S closed (labelIn steps levels) v inside lat e u (operand-in j k), h .low, h .high)
+            subst Bound (sym (w .2 ∙ operand-is j k)) (forced-operand S closed (labelIn steps levels) v inside lat q e u (operand-in j k), h .low, h .high)
 
         all : All (λ u. arrives S (labelIn steps levels) v u ≼ r) (node S v .operands)
         all =

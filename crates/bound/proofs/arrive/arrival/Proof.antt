@@ -7,17 +7,21 @@ use Rattle.bound.proofs.arrive.arrival.Tie as tie
 
 returns : tie.Need-returns
 returns c =
-    let s = c .before .before .before .before in
+    let r = c .before in
+    let q = r .before in
+    let lat = q .before in
+    let own = lat .before in
+    let s = own .before in
     let a = s .args in
-    let own = c .before .before .before .label-of in
-    let ready = c .before .ready in
-    arrival-is (a .graph .now) (a .steps .now) (a .levels .now) (a .top .0) (a .delay .0) (a .u) (c .before .before .latency-in .result .0) (labelOf (own .result)) (labelOf (ready .result)) (labelOf (c .plus .result))
-    (own .ensures) (c .before .before .latency-in .ensures) (ready .ensures) (c .plus .ensures) (s .pre .1)
+    arrival-is (a .graph .now) (a .steps .now) (a .levels .now) (a .top .0) (a .delay .0) (a .u) (lat .latency-in .result .0) (q .clock-to-q-in .result .0)
+    (labelOf (own .label-of .result)) (labelOf (r .ready .result)) (labelOf (c .plus .result))
+    (own .label-of .ensures) (lat .latency-in .ensures) (q .clock-to-q-in .ensures) (r .ready .ensures) (c .plus .ensures) (s .pre .1)
 
 pub arrival-spec : {M : Type 1} → statement M
 arrival-spec =
     tie.close
     (tie.spec
+    (λ c κs. search needs)
     (λ c κs. search needs)
     (λ c κs. search needs)
     (λ c κs. search needs)
