@@ -46,7 +46,7 @@ fn is_used(graph: &Graph, used: &[u8; 256], v: u32) -> bool
     let kind = kind_in(graph, v);
     let mark = used[v as usize];
     match kind {
-        Kind::Box { latency: _ } => true,
+        Kind::Box { .. } => true,
         Kind::Logic => mark == 1,
         Kind::Input => mark == 1,
     }
@@ -181,7 +181,7 @@ fn cover_node(
     let kind = kind_in(graph, v);
     match kind {
         Kind::Input => {}
-        Kind::Box { latency: _ } => mark_operands(graph, used, v),
+        Kind::Box { .. } => mark_operands(graph, used, v),
         Kind::Logic => {
             write_cut(graph, limits, steps, levels, cuts, v);
             mark_leaves(cuts, used, v);

@@ -24,7 +24,7 @@ fn is_logic(kind: Kind) -> bool
     match kind {
         Kind::Logic => true,
         Kind::Input => false,
-        Kind::Box { latency: _ } => false,
+        Kind::Box { .. } => false,
     }
 }
 

@@ -102,7 +102,7 @@ pub fn has_cut(graph: &Graph, kept: &mut Cuts, v: u32, k: u32) -> bool
     match kind {
         Kind::Input => return true,
         Kind::Logic => {}
-        Kind::Box { latency: _ } => return true,
+        Kind::Box { .. } => return true,
     }
     let mut code = [0u8; 256];
     open_codes(graph, &mut code, v);

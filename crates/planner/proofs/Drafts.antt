@@ -35,7 +35,7 @@ legal-carries S L H ok v l i = go (node S v .kind) i (ok .nodes v l .carried)
     go : (x : Kind) → isLogic x ≡ true → Carried S L x v → CarryingCut S L v
     go input e h = clash e
     go logic e h = h
-    go (box lat) e h = clash e
+    go (box lat q) e h = clash e
 
 -- labels that are legal within the horizon
 module _ {S : Sheet} {graph differences : List ℕ} {limits : R.Header} (steps levels : List ℕ) (k : Given S graph differences limits)

@@ -54,7 +54,7 @@ fn prepare(
     let kind = kind_in(graph, v);
     match kind {
         Kind::Input => false,
-        Kind::Box { latency: _ } => false,
+        Kind::Box { .. } => false,
         Kind::Logic => {
             set_codes(graph, allowed, code, v);
             true

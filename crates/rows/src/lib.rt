@@ -84,10 +84,7 @@ pub fn code_of(kind: Kind) -> u32
     match kind {
         Kind::Input => 0,
         Kind::Logic => 1,
-        Kind::Box {
-            latency: _,
-            clock_to_q: _,
-        } => 2,
+        Kind::Box { .. } => 2,
     }
 }
 
@@ -97,10 +94,7 @@ pub fn latency_of(kind: Kind) -> u32
     match kind {
         Kind::Input => 0,
         Kind::Logic => 0,
-        Kind::Box {
-            latency,
-            clock_to_q: _,
-        } => latency.0,
+        Kind::Box { latency, .. } => latency.0,
     }
 }
 
@@ -110,10 +104,7 @@ pub fn clock_to_q_of(kind: Kind) -> u32
     match kind {
         Kind::Input => 0,
         Kind::Logic => 0,
-        Kind::Box {
-            latency: _,
-            clock_to_q,
-        } => clock_to_q.0,
+        Kind::Box { clock_to_q, .. } => clock_to_q.0,
     }
 }
 

@@ -65,7 +65,7 @@ returns-3 c S going p l =
     let v = s .args .v in
     record {
       settles =
-          settles-latest going v l p (b .base-label .ensures S (bounding going v l)) _ (kind-is going v l _ (k .kind-in .ensures) ∙ ap kindMeant (t .enum-told3 .given .1))
+          settles-latest going v l p (b .base-label .ensures S (bounding going v l)) _ _ (kind-is going v l _ (k .kind-in .ensures) ∙ ap kindMeant (t .enum-told3 .given .1))
           (c .latest-arrival .ensures);
       allKept = going .allKept;
     }
