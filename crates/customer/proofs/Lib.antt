@@ -1,6 +1,7 @@
 pub mod Answers
 pub mod Demands
 pub mod Bounds
+pub mod Keeping
 pub mod Reading
 pub mod Stores
 pub mod Imports

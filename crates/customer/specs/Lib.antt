@@ -1,5 +1,6 @@
 pub mod Demands
 pub mod Bounds
+pub mod Keeping
 pub mod Reading
 pub mod Answers
 pub mod Stores

@@ -2,6 +2,7 @@
 ghost use lib.ListN.{length};
 ghost use Rattle.customer.specs.Demands.{Demand-1, Demand-2, Demand-3};
 ghost use Rattle.customer.specs.Bounds.{Bounded};
+ghost use Rattle.customer.specs.Keeping.{PlanKept};
 use bytes::Answer;
 use planner::maps_plan;
 
@@ -10,6 +11,7 @@ pub fn plan_sheet(sheet: &[u8], buffer: &mut [u8]) -> Answer
     ensures demand_1 { λ r. ⌜ Demand-1 (now (sheet .entry)) (now (buffer .entry)) (r .number) (r .place) (now (buffer .exit)) ⌝ }
     ensures demand_2 { λ r. ⌜ Demand-2 (now (sheet .entry)) (now (buffer .entry)) (r .number) (r .place) (now (buffer .exit)) ⌝ }
     ensures demand_3 { λ r. ⌜ Demand-3 (now (sheet .entry)) (now (buffer .entry)) (r .number) (r .place) (now (buffer .exit)) ⌝ }
+    ensures keeps { λ r. ⌜ PlanKept (now (sheet .entry)) (now (buffer .entry)) (r .number) (r .place) (now (buffer .exit)) ⌝ }
     ensures bounds { λ r. ⌜ Bounded (length (now (buffer .entry))) (r .number) (r .place) ⌝ }
 {
     maps_plan(sheet, buffer)
