@@ -8,7 +8,7 @@ use lib.Dec.{leb}
 use lib.ListN.{length, length-append}
 use borrow.Author.Tests.{leb-true}
 use Rattle.maps.specs.Lists.{All, all}
-use Rattle.maps.specs.Sheet.{input, box, latencyOf}
+use Rattle.maps.specs.Sheet.{input, box, latencyOf, clockToQOf}
 use Rattle.maps.specs.Limits.{rangesOf}
 use Rattle.maps.specs.WellFormed.{Within, codeOf}
 use Rattle.maps.proofs.Over.{and-true}
@@ -24,17 +24,18 @@ use Rattle.blif.proofs.Ordering.{Ordered, ordered-none, ordered-more, O
 -- what a definition can be, whatever T is
 pub record WellDefinition (x : Definition) : Type 0 where
   pub latency : (top : ℕ) → Within (rangesOf top (codeOf (x .kind)) .latency) (latencyOf (x .kind))
+  pub clockToQ : clockToQOf (x .kind) ≡ 0
   pub count : (top : ℕ) → Within (rangesOf top (codeOf (x .kind)) .operands) (length (x .reads))
 
 well-input : (n : Word) → WellDefinition (definition n input [])
-well-input n = record { latency = λ top. record { least = omega arith; most = omega arith }; count = λ top. record { least = omega arith; most = omega arith } }
+well-input n = record { latency = λ top. record { least = omega arith; most = omega arith }; clockToQ = refl; count = λ top. record { least = omega arith; most = omega arith } }
 
 well-table : (o : Word) (us : List Word) → length us ≤ 6 → WellDefinition (definition o (kindOf us) us)
 well-table o [] l = well-input o
-well-table o (u ∷ us) l = record { latency = λ top. record { least = omega arith; most = omega arith }; count = λ top. record { least = omega arith; most = l } }
+well-table o (u ∷ us) l = record { latency = λ top. record { least = omega arith; most = omega arith }; clockToQ = refl; count = λ top. record { least = omega arith; most = l } }
 
-well-latch : (i o : Word) → WellDefinition (definition o (box 1) (i ∷ []))
-well-latch i o = record { latency = λ top. record { least = omega arith; most = omega arith }; count = λ top. record { least = omega arith; most = omega arith } }
+well-latch : (i o : Word) → WellDefinition (definition o (box 1 0) (i ∷ []))
+well-latch i o = record { latency = λ top. record { least = omega arith; most = omega arith }; clockToQ = refl; count = λ top. record { least = omega arith; most = omega arith } }
 
 well-inputs : (ns : List Word) → All WellDefinition (map (λ n. definition n input []) ns)
 well-inputs [] = tt

@@ -9,7 +9,7 @@ use lib.Dec.{leb}
 use lib.ListN.{length, getD, length-map}
 use borrow.Author.Tests.{leb-true, le-leb}
 use Rattle.maps.specs.Lists.{All, equal}
-use Rattle.maps.specs.Sheet.{Sheet, Kind, input, logic, box, Node, noNode, size, isLogic}
+use Rattle.maps.specs.Sheet.{Sheet, Kind, input, logic, box, Node, noNode, size, isLogic, latencyOf, clockToQOf}
 use Rattle.maps.specs.Limits.{Range, leavesRange, topRange, horizonRange, rangesOf}
 use Rattle.maps.specs.Form.{among, passes}
 use Rattle.maps.specs.WellFormed.{Within, codeOf, WellNode, WellFormed}
@@ -135,7 +135,13 @@ model-follows text M e = follow-found (length (lines text) + 1) first empty (lin
 well-delay : (k : Kind) (top d : ℕ) → 1 ≤ d → d ≤ top → Within (rangesOf top (codeOf k) .delay) (cond (isLogic k) d 0)
 well-delay input top d l m = record { least = omega arith; most = omega arith }
 well-delay logic top d l m = record { least = l; most = m }
-well-delay (box lat) top d l m = record { least = omega arith; most = omega arith }
+well-delay (box lat q) top d l m = record { least = omega arith; most = omega arith }
+
+well-clock : (k : Kind) (top : ℕ) → clockToQOf k ≡ 0 → Within (rangesOf top (codeOf k) .clockToQ (latencyOf k)) (clockToQOf k)
+well-clock input top e = record { least = omega arith; most = omega arith }
+well-clock logic top e = record { least = omega arith; most = omega arith }
+well-clock (box zero q) top e = record { least = omega arith; most = omega arith }
+well-clock (box (suc lat) q) top e = record { least = omega arith; most = omega arith }
 
 -- the nodes of a sound model
 well-node : (c : Caller) → Callable c → (M : Model) → Sound last M → (v : ℕ) → v < length (M .definitions) → WellNode (c .top) v (nodeOf (delay c) M (getD (M .definitions) v noDefinition))
@@ -145,6 +151,7 @@ well-node c h M s v l =
     record {
       delay = well-delay (x .kind) (c .top) (delay c) (delay-some (c .table) (c .level) (h .table) (h .level)) (h .delay);
       latency = w .latency (c .top);
+      clockToQ = well-clock (x .kind) (c .top) (w .clockToQ);
       count = rw (length-map (x .reads) (idOf (namesOf (M .definitions)))) (w .count (c .top));
       operands = pairs-right (StandsFor (M .definitions) v) (λ u. u < v) (λ n u r. r .before) (x .reads) (map (idOf (namesOf (M .definitions))) (x .reads)) (operands-stand (M .definitions) (s .ordered) v l);
     }
@@ -192,6 +199,7 @@ defined-node : (d : ℕ) (M : Model) → Sound last M → (i : ℕ) → i < leng
 defined-node d M s i l = record {
   kind = refl;
   delay = refl;
+  clockToQ = All-get WellDefinition noDefinition (M .definitions) (s .well) i l .clockToQ;
   operands = operands-stand (M .definitions) (s .ordered) i l;
   marked = mark-sound (M .outputs) (getD (M .definitions) i noDefinition .name);
   unmarked = mark-complete (M .outputs) (getD (M .definitions) i noDefinition .name);

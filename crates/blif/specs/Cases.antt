@@ -43,15 +43,15 @@ holds (given text c room o) = isOutcome (importing text c room) o
 abbrev sheet : (n : ℕ) → (nodes : List ℕ) → Outcome
 sheet n nodes = accepted ((4 ∷ 8 ∷ 9 ∷ n ∷ 0 ∷ []) ++ nodes)
 
--- an input, a table, a latch; o is 1 if it is put out
+-- an input, a table, a latch, each with q = 0; o is 1 if it is put out
 abbrev input : (o : ℕ) → List ℕ
-input o = 0 ∷ o ∷ 0 ∷ 0 ∷ 0 ∷ []
+input o = 0 ∷ o ∷ 0 ∷ 0 ∷ 0 ∷ 0 ∷ []
 
 abbrev table : (o count : ℕ) → (operands : List ℕ) → List ℕ
-table o n us = 1 ∷ o ∷ 2 ∷ 0 ∷ n ∷ us
+table o n us = 1 ∷ o ∷ 2 ∷ 0 ∷ 0 ∷ n ∷ us
 
 abbrev box : (o operand : ℕ) → List ℕ
-box o u = 2 ∷ o ∷ 0 ∷ 1 ∷ 1 ∷ u ∷ []
+box o u = 2 ∷ o ∷ 0 ∷ 1 ∷ 0 ∷ 1 ∷ u ∷ []
 
 -- an input a, no more
 abbrev one : Outcome
@@ -71,7 +71,7 @@ single = framed (bytesOf ".inputs a\n.outputs y\n.names a y\n1 1")
 
 -- its sheet for K, T, H and d, where all are below 128
 abbrev singleSheet : (k t h d : ℕ) → Outcome
-singleSheet k t h d = accepted ((k ∷ t ∷ h ∷ 2 ∷ 0 ∷ []) ++ input 0 ++ (1 ∷ 1 ∷ d ∷ 0 ∷ 1 ∷ 0 ∷ []))
+singleSheet k t h d = accepted ((k ∷ t ∷ h ∷ 2 ∷ 0 ∷ []) ++ input 0 ++ (1 ∷ 1 ∷ d ∷ 0 ∷ 0 ∷ 1 ∷ 0 ∷ []))
 
 unfoldable pub cases : List Case
 cases =
@@ -239,8 +239,8 @@ cases =
     ∷ given (replicate 65536 32) usual 2000 (refusal 9 2)
     ∷ given [] (caller 1 8 9 1000 500) 0 (refusal 11 0)
     -- "and then 8": one byte short, the exact room, and no room for what is refused
-    ∷ given single usual 15 (refusal 8 16)
-    ∷ given single usual 16 (singleSheet 4 8 9 2)
+    ∷ given single usual 17 (refusal 8 18)
+    ∷ given single usual 18 (singleSheet 4 8 9 2)
     ∷ given (framed (bytesOf ".inputs a\n.outputs y")) usual 0 (refusal 10 3)
     ∷ given (bytesOf ".model m\n.end") usual 0 (refusal 11 2)
     ∷ []

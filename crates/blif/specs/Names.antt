@@ -25,14 +25,14 @@ kindOf (u ∷ us) = logic
 abbrev pub inputsOf : List Word → List Definition
 inputsOf ns = map (λ n. definition n input []) ns
 
--- what a line defines: "A `.latch` is a box with d = 0 and lat = 1."
+-- what a line defines: "A `.latch` is a box with d = 0 and lat = 1."; document 02, U5, of q: "The importer writes 0."
 abbrev pub defined : Statement → List Definition
 defined (model n) = []
 defined (inputs ns) = inputsOf ns
 defined (outputs ns) = []
 defined (names us o) = definition o (kindOf us) us ∷ []
 defined row = []
-defined (latch i o) = definition o (box 1) (i ∷ []) ∷ []
+defined (latch i o) = definition o (box 1 0) (i ∷ []) ∷ []
 defined end = []
 defined outside = []
 

@@ -5,7 +5,7 @@ use mathlib.Core.Bool.{true, cond}
 use mathlib.Core.List.{List, [], _∷_, map, List·Memᴰ}
 use lib.ListN.{length, getD}
 use Rattle.maps.specs.Lists.{concat}
-use Rattle.maps.specs.Sheet.{Sheet, input, Node, node, isLogic}
+use Rattle.maps.specs.Sheet.{Sheet, input, Node, node, isLogic, clockToQOf}
 use Rattle.blif.specs.Words.{Word, Line, linesOf}
 use Rattle.blif.specs.Subset.{Stage, first, Statement, statement, stageAfter}
 use Rattle.blif.specs.Names.{Definition, definition, defined, OutputName, outputNames}
@@ -60,10 +60,12 @@ pub record IsOutput (os : List OutputName) (w : Word) : Type 0 where
   pub standing : List·Memᴰ output os
   pub named : w ≡ output .name
 
--- node i is the i-th definition of the text: of its kind, reading exactly what it reads, put out exactly if an `.outputs` line names it
+-- node i is the i-th definition of the text: of its kind, reading exactly what it reads, put out exactly if an `.outputs` line names it; document 02,
+-- U5, of q: "The importer writes 0."
 pub record DefinedNode (ds : List Definition) (os : List OutputName) (d i : ℕ) (v : Node) : Type 0 where
   pub kind : v .kind ≡ getD ds i noDefinition .kind
   pub delay : v .delay ≡ cond (isLogic (v .kind)) d 0
+  pub clockToQ : clockToQOf (v .kind) ≡ 0
   pub operands : Pairs (StandsFor ds i) (getD ds i noDefinition .reads) (v .operands)
   pub marked : v .output ≡ true → IsOutput os (getD ds i noDefinition .name)
   pub unmarked : IsOutput os (getD ds i noDefinition .name) → v .output ≡ true

@@ -91,7 +91,7 @@ names-defined (w ∷ ws) n l =
     let e : length ws ≡ n = omega (arith, l) in
     rw (sym e, sym (init-take w ws), sym (last-at w ws)) refl
 
-pub latch-defined : (ws : List Word) → 2 ≤ length ws → defined (latch (getD ws 0 []) (getD ws 1 [])) ≡ definition (getD ws 1 []) (box 1) (take 1 ws) ∷ []
+pub latch-defined : (ws : List Word) → 2 ≤ length ws → defined (latch (getD ws 0 []) (getD ws 1 [])) ≡ definition (getD ws 1 []) (box 1 0) (take 1 ws) ∷ []
 latch-defined [] l = absurd (omega arith)
 latch-defined (w ∷ ws) l = refl
 

@@ -1,5 +1,5 @@
 -- Rows, names and reads of definitions one after the other; the ids of names when more are defined; names that come once.
-use Prim.Native.Nat.{ℕ, suc, _+_, _*_, _<_}
+use Prim.Native.Nat.{ℕ, suc, _+_, _<_}
 use mathlib.Core.Path.{_≡_, refl, sym, ap, _∙_}
 use mathlib.Core.Bool.{Bool, true, false, cond, _||_, or-assoc}
 use mathlib.Core.List.{List, [], _∷_, _++_, map, append-assoc, map-append}
@@ -7,9 +7,10 @@ use native.Mathlib.Omega.{arith}
 use lib.ListN.{length, length-append}
 use borrow.Author.Tests.{ltb-true}
 use Rattle.maps.specs.Lists.{all, equal}
-use Rattle.maps.specs.Sheet.{isLogic, latencyOf}
+use Rattle.maps.specs.Sheet.{isLogic, latencyOf, clockToQOf}
 use Rattle.maps.specs.WellFormed.{codeOf}
 use Rattle.maps.proofs.Over.{and-true}
+use Rattle.records.specs.Rows.{nodePlace}
 use Rattle.blif.specs.Words.{Word}
 use Rattle.blif.specs.Names.{Definition, namesOf, readsOf, has}
 use Rattle.blif.specs.Import.{idOf}
@@ -30,10 +31,10 @@ module _ (d : ℕ) (m : Word → Bool) where
   rows-append e (x ∷ xs) ys =
       let n : e + length (x .reads) + length (readsOf xs) ≡ e + length (x .reads ++ readsOf xs) = omega (arith, length-append (x .reads) (readsOf xs)) in
       ap
-      (λ (rows : List ℕ). codeOf (x .kind) ∷ cond (m (x .name)) 1 0 ∷ cond (isLogic (x .kind)) d 0 ∷ latencyOf (x .kind) ∷ (e + length (x .reads)) ∷ rows)
+      (λ (rows : List ℕ). codeOf (x .kind) ∷ cond (m (x .name)) 1 0 ∷ cond (isLogic (x .kind)) d 0 ∷ latencyOf (x .kind) ∷ (e + length (x .reads)) ∷ clockToQOf (x .kind) ∷ rows)
       (rows-append (e + length (x .reads)) xs ys ∙ ap (λ (k : ℕ). rowsFrom d m (e + length (x .reads)) xs ++ rowsFrom d m k ys) n)
 
-  pub rows-length : (e : ℕ) (xs : List Definition) → length (rowsFrom d m e xs) ≡ 5 * length xs
+  pub rows-length : (e : ℕ) (xs : List Definition) → length (rowsFrom d m e xs) ≡ nodePlace (length xs)
   rows-length e [] = refl
   rows-length e (x ∷ xs) = omega (arith, rows-length (e + length (x .reads)) xs)
 

@@ -1,9 +1,9 @@
--- The rows of a model's nodes, as the sheet writer takes them: kind, output mark, d, lat, and where the operands end.
+-- The rows of a model's nodes, as the sheet writer takes them: kind, output mark, d, lat, where the operands end, and q.
 use Prim.Native.Nat.{ℕ, _+_}
 use mathlib.Core.Bool.{Bool, cond}
 use mathlib.Core.List.{List, [], _∷_, _++_, map}
 use lib.ListN.{length}
-use Rattle.maps.specs.Sheet.{Kind, latencyOf, isLogic}
+use Rattle.maps.specs.Sheet.{Kind, latencyOf, clockToQOf, isLogic}
 use Rattle.maps.specs.WellFormed.{codeOf}
 use Rattle.records.specs.declared.NodeRow.{NodeRow}
 use Rattle.blif.specs.Words.{Word}
@@ -12,11 +12,12 @@ use Rattle.blif.specs.Import.{idOf}
 
 -- the row of a node of this kind that is not marked, where a table takes d levels
 abbrev pub rowMeant : (d : ℕ) → Kind → (end : ℕ) → NodeRow
-rowMeant d k end = record { kind = codeOf k; output = 0; delay = cond (isLogic k) d 0; latency = latencyOf k; end = end }
+rowMeant d k end =
+    record { kind = codeOf k; output = 0; delay = cond (isLogic k) d 0; latency = latencyOf k; end = end; clock = clockToQOf k }
 
 -- the row of a definition, marked by its name
 abbrev pub rowOf : (d : ℕ) → (marked : Word → Bool) → (end : ℕ) → Definition → List ℕ
-rowOf d m end x = codeOf (x .kind) ∷ cond (m (x .name)) 1 0 ∷ cond (isLogic (x .kind)) d 0 ∷ latencyOf (x .kind) ∷ end ∷ []
+rowOf d m end x = codeOf (x .kind) ∷ cond (m (x .name)) 1 0 ∷ cond (isLogic (x .kind)) d 0 ∷ latencyOf (x .kind) ∷ end ∷ clockToQOf (x .kind) ∷ []
 
 -- the rows of definitions, where the operands of those before end at e
 abbrev pub rowsFrom : (d : ℕ) → (marked : Word → Bool) → (e : ℕ) → List Definition → List ℕ

@@ -19,6 +19,7 @@ ghost use Rattle.subset.specs.Meant.{statementMeant, Shaped};
 ghost use Rattle.definitions.specs.Rows.{rowMeant};
 ghost use Rattle.definitions.specs.Kept.{Kept, Added, Lawful};
 use maps::Kind;
+use maps::Level;
 use maps::Step;
 use names::Names;
 use names::add_name;
@@ -29,6 +30,12 @@ use records::put_row;
 use scan::after_blanks;
 use scan::after_word;
 use subset::Statement;
+
+// The kind of a `.latch`: a box whose lat is 1 and whose q is 0.
+const LATCH: Kind = Kind::Box {
+    latency: Step(1),
+    clock_to_q: Level(0),
+};
 
 // How many nodes and operands are kept.
 pub struct Size {
@@ -47,6 +54,7 @@ pub fn row_of(kind: Kind, delay: u32, end: u32) -> NodeRow
             delay: 0,
             latency: 0,
             end,
+            clock: 0,
         },
         Kind::Logic => NodeRow {
             kind: 1,
@@ -54,13 +62,18 @@ pub fn row_of(kind: Kind, delay: u32, end: u32) -> NodeRow
             delay,
             latency: 0,
             end,
+            clock: 0,
         },
-        Kind::Box { latency } => NodeRow {
+        Kind::Box {
+            latency,
+            clock_to_q,
+        } => NodeRow {
             kind: 2,
             output: 0,
             delay: 0,
             latency: latency.0,
             end,
+            clock: clock_to_q.0,
         },
     }
 }
@@ -232,17 +245,7 @@ pub fn keep_line(
             operands,
             size,
         ),
-        Statement::Latch => keep_one(
-            text,
-            rest,
-            1,
-            Kind::Box { latency: Step(1) },
-            delay,
-            names,
-            nodes,
-            operands,
-            size,
-        ),
+        Statement::Latch => keep_one(text, rest, 1, LATCH, delay, names, nodes, operands, size),
         Statement::Model => size,
         Statement::Outputs => size,
         Statement::Row => size,

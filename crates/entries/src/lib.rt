@@ -58,12 +58,13 @@ pub fn put_head(
     position: Position,
 ) -> Progress
     requires { ⌜ (top ≤ topRange .high) × Room headBytesMost (now bytes) position ⌝ }
-    ensures { λ r. ⌜ Wrote (headEntries top (row .kind) (row .output) (row .delay) (row .latency) count) (now (bytes .entry)) (now (bytes .exit)) position r ⌝ }
+    ensures { λ r. ⌜ Wrote (headEntries top (row .kind) (row .output) (row .delay) (row .latency) (row .clock) count) (now (bytes .entry)) (now (bytes .exit)) position r ⌝ }
 {
     let kind = row.kind;
     let mark = row.output as u64;
     let delay = row.delay as u64;
     let latency = row.latency as u64;
+    let q = row.clock as u64;
     let kind_put = put_field(bytes, position, Field::Kind, kind as u64);
     let Progress::Next(p1) = kind_put else {
         return kind_put;
@@ -83,8 +84,13 @@ pub fn put_head(
     let Progress::Next(p4) = latency_put else {
         return latency_put;
     };
+    let clocks = all.clock_to_q(row.latency, top);
+    let clock_put = put_in(bytes, p4, clocks, q);
+    let Progress::Next(p5) = clock_put else {
+        return clock_put;
+    };
     let counts = all.operands;
-    put_in(bytes, p4, counts, count as u64)
+    put_in(bytes, p5, counts, count as u64)
 }
 
 // Writes difference j among n nodes.

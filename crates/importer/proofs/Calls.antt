@@ -57,9 +57,9 @@ module _ (text : List ℕ) (c : Caller) (M : Model) (f : modelOf text ≡ found 
       ap (refusal 10) (sym (q .3)) ∙ sym (import-undefined text c M (q .0) (q .1) f (q .2) h (short-enough text l) room)
 
 -- nothing is kept at first
-pub nothing-kept : (d : ℕ) → Kept d [] (replicate 9216 0) (replicate 1280 0) (replicate 1536 0) 0 0
+pub nothing-kept : (d : ℕ) → Kept d [] (replicate 9216 0) (replicate 1536 0) (replicate 1536 0) 0 0
 nothing-kept d =
-    record { listed = listed-none; named = refl; rows = refl; ids = refl; closed = refl; few = omega arith; wide = length-replicate {A = ℕ} 1280 0; long = length-replicate {A = ℕ} 1536 0 }
+    record { listed = listed-none; named = refl; rows = refl; ids = refl; closed = refl; few = omega arith; wide = length-replicate {A = ℕ} 1536 0; long = length-replicate {A = ℕ} 1536 0 }
 
 -- the model was refused
 pub refused-model : (text : List ℕ) (c : Caller) (d : ℕ) (names nodes operands : List ℕ) (r : M.Model) (w : Refusal) → r ≡ Read.Refused w → ModelRead text d names nodes operands r → callable c ≡ true

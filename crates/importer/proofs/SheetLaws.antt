@@ -8,7 +8,7 @@ use native.Mathlib.Nat.{not-suc-le-zero}
 use lib.ListN.{length, getD, take, drop, length-append, length-map, List·getD-map}
 use lib.Seq.{take-suc, split-at, take-at, drop-at, ext-getD}
 use Rattle.maps.specs.Lists.{below}
-use Rattle.maps.specs.Sheet.{isLogic, latencyOf}
+use Rattle.maps.specs.Sheet.{isLogic, latencyOf, clockToQOf}
 use Rattle.maps.specs.WellFormed.{codeOf}
 use Rattle.maps.specs.Records.{NodeRecord, nodeRecord, recordsOf}
 use Rattle.maps.specs.Write.{spelling, writing}
@@ -55,7 +55,15 @@ reads-at ds i l = ap readsOf (split-at ds i noDefinition l) ∙ reads-append (ta
 module _ (d : ℕ) (m : Word → Bool) where
   -- the row of a definition whose operands end at e
   abbrev rowOf : (e : ℕ) → Definition → NodeRow
-  rowOf e x = record { kind = codeOf (x .kind); output = cond (m (x .name)) 1 0; delay = cond (isLogic (x .kind)) d 0; latency = latencyOf (x .kind); end = e }
+  rowOf e x =
+      record {
+        kind = codeOf (x .kind);
+        output = cond (m (x .name)) 1 0;
+        delay = cond (isLogic (x .kind)) d 0;
+        latency = latencyOf (x .kind);
+        end = e;
+        clock = clockToQOf (x .kind);
+      }
 
   row-later : (e : ℕ) (x : Definition) (xs : List Definition) (i : ℕ) → nodeRow (rowsFrom d m e (x ∷ xs)) (suc i) ≡ nodeRow (rowsFrom d m (e + length (x .reads)) xs) i
   row-later e x xs i = λ j. record {
@@ -64,9 +72,10 @@ module _ (d : ℕ) (m : Word → Bool) where
     delay = at (nodePlace (suc i) + 2) (nodePlace i + 2) (omega arith) j;
     latency = at (nodePlace (suc i) + 3) (nodePlace i + 3) (omega arith) j;
     end = at (nodePlace (suc i) + 4) (nodePlace i + 4) (omega arith) j;
+    clock = at (nodePlace (suc i) + 5) (nodePlace i + 5) (omega arith) j;
   }
     where
-      at : (p q : ℕ) → p ≡ suc (suc (suc (suc (suc q)))) → getD (rowsFrom d m e (x ∷ xs)) p 0 ≡ getD (rowsFrom d m (e + length (x .reads)) xs) q 0
+      at : (p q : ℕ) → p ≡ suc (suc (suc (suc (suc (suc q))))) → getD (rowsFrom d m e (x ∷ xs)) p 0 ≡ getD (rowsFrom d m (e + length (x .reads)) xs) q 0
       at p q h = ap (λ (n : ℕ). getD (rowsFrom d m e (x ∷ xs)) n 0) h
 
   row-at : (e : ℕ) (ds : List Definition) (i : ℕ) → i < length ds → nodeRow (rowsFrom d m e ds) i ≡ rowOf (e + length (readsBefore ds (suc i))) (getD ds i noDefinition)
@@ -112,13 +121,21 @@ module _ (d : ℕ) (m : Word → Bool) where
       mark = cond (m (x .name)) 1 0;
       delay = cond (isLogic (x .kind)) d 0;
       latency = latencyOf (x .kind);
+      clockToQ = clockToQOf (x .kind);
       operands = map f (x .reads);
     }
 
     node-at : (i : ℕ) → i < length ds → nodeIn rows operands i ≡ recordOf (getD ds i noDefinition)
     node-at i l =
         let r = row-at 0 ds i l in
-        λ j. record { kind = r j .kind; mark = r j .output; delay = r j .delay; latency = r j .latency; operands = operands-at i l j }
+        λ j. record {
+          kind = r j .kind;
+          mark = r j .output;
+          delay = r j .delay;
+          latency = r j .latency;
+          clockToQ = r j .clock;
+          operands = operands-at i l j;
+        }
 
     -- the rows stand for the records of the definitions, one by one
     nodes-are : map (nodeIn rows operands) (below (rowsIn nodePlace rows)) ≡ map recordOf ds

@@ -19,6 +19,7 @@ use model::read_model;
 use names::Names;
 use outputs::Marked;
 use outputs::mark_outputs;
+use records::NODE;
 use writer::write;
 
 // Writes the sheet of a model that is kept, where all its outputs are defined.
@@ -38,7 +39,7 @@ pub fn write_model(
         → Kept (Delay c) (M .definitions) (now (names .entry)) (now (nodes .entry)) (now (operands .entry)) (size .nodes) (size .operands) → modelOf (now (text .entry)) ≡ found M
         → Answered (importing (now (text .entry)) c (length (now (buffer .entry)))) (numberAnswered r) (placeAnswered r) (now (buffer .entry)) (now (buffer .exit))) ⌝ }
 {
-    let n = size.nodes * 5;
+    let n = size.nodes * NODE;
     let used = size.operands;
     let marked = mark_outputs(text, names, size.nodes, nodes);
     match marked {
@@ -72,7 +73,7 @@ pub fn import_text(
         → Answered (importing (now (text .entry)) c (length (now (buffer .entry)))) (numberAnswered r) (placeAnswered r) (now (buffer .entry)) (now (buffer .exit))) ⌝ }
 {
     let mut names = [0u32; 9216];
-    let mut nodes = [0u32; 1280];
+    let mut nodes = [0u32; 1536];
     let mut operands = [0u32; 1536];
     let model = read_model(text, delay, &mut names, &mut nodes, &mut operands);
     match model {

@@ -1,5 +1,5 @@
 -- One name marked in the rows, and which lines name outputs.
-use Prim.Native.Nat.{ℕ, zero, suc, _+_, _*_, _<_}
+use Prim.Native.Nat.{ℕ, zero, suc, _+_, _<_}
 use mathlib.Core.Path.{_≡_, refl, sym, subst, ap, _∙_}
 use mathlib.Core.Bool.{Bool, true, false, cond, _&&_, _||_, not, or-false}
 use mathlib.Core.List.{List, [], _∷_, _++_, map, append-nil, append-assoc}
@@ -7,10 +7,11 @@ use native.Mathlib.Omega.{arith}
 use lib.Dec.{eqb}
 use lib.ListN.{length, getD, set}
 use Rattle.maps.specs.Lists.{All, equal, concat}
-use Rattle.maps.specs.Sheet.{isLogic, latencyOf}
+use Rattle.maps.specs.Sheet.{isLogic, latencyOf, clockToQOf}
 use Rattle.maps.specs.WellFormed.{codeOf}
 use Rattle.maps.proofs.Over.{same-test}
 use Rattle.maps.proofs.Member.{All-map, All-ids, everywhere, or-right}
+use Rattle.records.specs.Rows.{markPlace}
 use Rattle.blif.specs.Lines.{lines}
 use Rattle.blif.specs.Words.{Word, Line, bytesOf, is, linesOf}
 use Rattle.blif.specs.Subset.{Stage, first, head, cover, latched, last, Statement, inputs, outputs, row, latch, outside, modelLine, namesLine, latchLine, endLine, initial, bit, literals, rowLine, bodyLine, statement, stageAfter}
@@ -48,12 +49,12 @@ module _ (d : ℕ) where
 
   -- a row with its mark, and the rows after it
   abbrev withRow : (e : ℕ) → Definition → (mark : Bool) → (rest : List ℕ) → List ℕ
-  withRow e x b rest = codeOf (x .kind) ∷ cond b 1 0 ∷ cond (isLogic (x .kind)) d 0 ∷ latencyOf (x .kind) ∷ e ∷ rest
+  withRow e x b rest = codeOf (x .kind) ∷ cond b 1 0 ∷ cond (isLogic (x .kind)) d 0 ∷ latencyOf (x .kind) ∷ e ∷ clockToQOf (x .kind) ∷ rest
 
   module _ (m : Word → Bool) (w : Word) where
     -- A name that is defined once is marked in its own row, and in no other one.
     pub mark-row : (e : ℕ) (xs : List Definition) → Once (namesOf xs) → has (namesOf xs) w ≡ true
-        → set (rowsFrom d m e xs) (5 * idOf (namesOf xs) w + 1) 1 ≡ rowsFrom d (λ v. m v || equal v w) e xs
+        → set (rowsFrom d m e xs) (markPlace (idOf (namesOf xs) w)) 1 ≡ rowsFrom d (λ v. m v || equal v w) e xs
     mark-row e [] o h = let z : _≡_ {A = ℕ} 0 1 = cc in absurd (omega arith)
     mark-row e (x ∷ xs) o h = go (equal w (x .name)) refl h (mark-row next xs (once-tail (x .name) (namesOf xs) o))
       where
@@ -68,13 +69,13 @@ module _ (d : ℕ) where
         other q v f = sym (ap (λ (b : Bool). m v || b) (ap (equal v) (equal-true w (x .name) q) ∙ f) ∙ or-false (m v))
 
         go : (b : Bool) → equal w (x .name) ≡ b → (b || has (namesOf xs) w) ≡ true
-            → (has (namesOf xs) w ≡ true → set (rowsFrom d m (e + length (x .reads)) xs) (5 * idOf (namesOf xs) w + 1) 1 ≡ rowsFrom d (λ v. m v || equal v w) (e + length (x .reads)) xs)
-            → set (rowsFrom d m e (x ∷ xs)) (5 * cond b 0 (suc (idOf (namesOf xs) w)) + 1) 1 ≡ rowsFrom d (λ v. m v || equal v w) e (x ∷ xs)
+            → (has (namesOf xs) w ≡ true → set (rowsFrom d m (e + length (x .reads)) xs) (markPlace (idOf (namesOf xs) w)) 1 ≡ rowsFrom d (λ v. m v || equal v w) (e + length (x .reads)) xs)
+            → set (rowsFrom d m e (x ∷ xs)) (markPlace (cond b 0 (suc (idOf (namesOf xs) w)))) 1 ≡ rowsFrom d (λ v. m v || equal v w) e (x ∷ xs)
         go true q h rec =
             ap (withRow next x true) (rows-alike m (λ v. m v || equal v w) next xs (All-map (other q) (namesOf xs) (once-head (x .name) (namesOf xs) o)))
             ∙ ap (λ (b : Bool). withRow next x b (rowsFrom d (λ v. m v || equal v w) next xs)) (sym (or-right (m (x .name)) (equal (x .name) w) (equal-comm (x .name) w ∙ q)))
         go false q h rec =
-            let p : 5 * suc id + 1 ≡ suc (suc (suc (suc (suc (5 * id + 1))))) = omega arith in
+            let p : markPlace (suc id) ≡ suc (suc (suc (suc (suc (suc (markPlace id)))))) = omega arith in
             ap (λ (i : ℕ). set (rowsFrom d m e (x ∷ xs)) i 1) p
             ∙ ap (withRow next x (m (x .name))) (rec h)
             ∙ ap (λ (b : Bool). withRow next x b (rowsFrom d (λ v. m v || equal v w) next xs)) (sym (ap (λ (b : Bool). m (x .name) || b) (equal-comm (x .name) w ∙ q) ∙ or-false (m (x .name))))

@@ -1,5 +1,5 @@
 -- Outputs marked word by word and line by line.
-use Prim.Native.Nat.{ℕ, _+_, _*_, _≤_, _<_}
+use Prim.Native.Nat.{ℕ, _+_, _≤_, _<_}
 use mathlib.Core.Path.{_≡_, refl, sym, subst, ap, _∙_}
 use mathlib.Core.Bool.{Bool, true, false, cond, _&&_, _||_, not, or-false, or-assoc}
 use mathlib.Core.List.{List, [], _∷_, _++_, map}
@@ -61,7 +61,7 @@ module _ (ns : List Word) where
         rows = λ d m xs e r.
             let p = markPlace (idOf ns w) in
             let l : p < nodePlace (length xs) = omega (arith, id-below ns w h, ap length e, length-map xs (λ (d : Definition). d .name)) in
-            let i : p ≡ 5 * idOf (namesOf xs) w + 1 = omega (arith, ap (λ (k : List Word). idOf k w) e) in
+            let i : p ≡ markPlace (idOf (namesOf xs) w) = omega (arith, ap (λ (k : List Word). idOf k w) e) in
             take-set-lt (nodePlace (length xs)) nodes p 1 l
             ∙ ap (λ (rows : List ℕ). set rows p 1) r
             ∙ ap (λ (k : ℕ). set (rowsFrom d m 0 xs) k 1) i

@@ -28,10 +28,11 @@ module _ (nodes operands : List ℕ) (v : ℕ) (row : NodeRow) (e : row ≡ node
   pub end-own : row .end ≤ length operands → row .end ≡ endOf nodes operands (v + 1)
   end-own l = omega (arith, end-is)
 
--- five numbers stored one behind the other stand behind what stood before
-pub five-more : (front : List ℕ) {a b c d e : List ℕ} (v w x y z : ℕ) → a ≡ front ++ (v ∷ []) → b ≡ a ++ (w ∷ []) → c ≡ b ++ (x ∷ []) → d ≡ c ++ (y ∷ [])
-    → e ≡ d ++ (z ∷ []) → e ≡ front ++ (v ∷ w ∷ x ∷ y ∷ z ∷ [])
-five-more front v w x y z p q r s t = t ∙ shift z (v ∷ w ∷ x ∷ y ∷ []) (s ∙ shift y (v ∷ w ∷ x ∷ []) (r ∙ shift x (v ∷ w ∷ []) (q ∙ shift w (v ∷ []) p)))
+-- six numbers stored one behind the other stand behind what stood before
+pub six-more : (front : List ℕ) {a b c d e f : List ℕ} (u v w x y z : ℕ) → a ≡ front ++ (u ∷ []) → b ≡ a ++ (v ∷ []) → c ≡ b ++ (w ∷ []) → d ≡ c ++ (x ∷ [])
+    → e ≡ d ++ (y ∷ []) → f ≡ e ++ (z ∷ []) → f ≡ front ++ (u ∷ v ∷ w ∷ x ∷ y ∷ z ∷ [])
+six-more front u v w x y z p q r s t o =
+    o ∙ shift z (u ∷ v ∷ w ∷ x ∷ y ∷ []) (t ∙ shift y (u ∷ v ∷ w ∷ x ∷ []) (s ∙ shift x (u ∷ v ∷ w ∷ []) (r ∙ shift w (u ∷ v ∷ []) (q ∙ shift v (u ∷ []) p))))
   where
     shift : {l : List ℕ} (n : ℕ) (m : List ℕ) → l ≡ front ++ m → l ++ (n ∷ []) ≡ front ++ (m ++ (n ∷ []))
     shift {l} n m h = ap (λ (k : List ℕ). k ++ (n ∷ [])) h ∙ append-assoc front m (n ∷ [])

@@ -13,7 +13,7 @@ use Rattle.records.specs.declared.DifferenceRow.{DifferenceRow}
 
 -- where the row of a node begins
 abbrev pub nodePlace : ℕ → ℕ
-nodePlace v = v * 5
+nodePlace v = v * 6
 
 -- where its mark stands
 abbrev pub markPlace : ℕ → ℕ
@@ -27,7 +27,7 @@ differencePlace j = j * 3
 abbrev pub rowsIn : (place : ℕ → ℕ) → List ℕ → ℕ
 rowsIn place rows = length rows / place 1
 
--- kind, output mark, d, lat, where the operands end
+-- kind, output mark, d, lat, where the operands end, q
 abbrev pub nodeRow : List ℕ → ℕ → NodeRow
 nodeRow nodes v =
     record {
@@ -36,10 +36,11 @@ nodeRow nodes v =
       delay = getD nodes (nodePlace v + 2) 0;
       latency = getD nodes (nodePlace v + 3) 0;
       end = getD nodes (nodePlace v + 4) 0;
+      clock = getD nodes (nodePlace v + 5) 0;
     }
 
 abbrev pub rowNumbers : NodeRow → List ℕ
-rowNumbers r = r .kind ∷ r .output ∷ r .delay ∷ r .latency ∷ r .end ∷ []
+rowNumbers r = r .kind ∷ r .output ∷ r .delay ∷ r .latency ∷ r .end ∷ r .clock ∷ []
 
 -- u, v, w
 abbrev pub differenceRow : List ℕ → ℕ → DifferenceRow
@@ -76,7 +77,14 @@ module _ (nodes operands : List ℕ) where
   abbrev pub nodeIn : ℕ → NodeRecord
   nodeIn v =
       let row = nodeRow nodes v in
-      record { kind = row .kind; mark = row .output; delay = row .delay; latency = row .latency; operands = operandsIn v }
+      record {
+        kind = row .kind;
+        mark = row .output;
+        delay = row .delay;
+        latency = row .latency;
+        clockToQ = row .clock;
+        operands = operandsIn v;
+      }
 
 -- its numbers
 abbrev pub nodeEntries : (top : ℕ) (nodes operands : List ℕ) → ℕ → List Entry

@@ -1,4 +1,4 @@
-// The records as C hands them over: rows of five numbers for the nodes and of three for the differences, and one array of operand ids.
+// The records as C hands them over: rows of six numbers for the nodes and of three for the differences, and one array of operand ids.
 ghost use mathlib.Core.Path.{_≡_};
 ghost use Prim.Native.Nat.{_+_, _/_, _<_, _≤_};
 ghost use mathlib.Core.List.{[], _∷_, _++_};
@@ -6,13 +6,20 @@ ghost use lib.ListN.{length, take, set};
 ghost use Rattle.maps.specs.Write.{codeOfWeight};
 ghost use Rattle.records.specs.Rows.{nodePlace, markPlace, differencePlace, rowsIn, nodeRow, rowNumbers, differenceRow, endOf, signed};
 
-// A node without its operands, and where these end in the array of operand ids.
+// How many numbers the row of a node has.
+pub const NODE: usize = 6;
+
+// How many numbers the row of a difference has.
+const DIFFERENCE: usize = 3;
+
+// A node without its operands: kind, output mark, d, lat, where its operands end in the array of operand ids, and its q.
 pub struct NodeRow {
     pub kind: u32,
     pub output: u32,
     pub delay: u32,
     pub latency: u32,
     pub end: u32,
+    pub clock: u32,
 }
 
 // A difference; w as the 32 bits of a signed number.
@@ -26,14 +33,14 @@ pub struct DifferenceRow {
 pub fn node_count(nodes: &[u32]) -> usize
     ensures { λ r. ⌜ r ≡ rowsIn nodePlace (now (nodes .entry)) ⌝ }
 {
-    nodes.len() / 5
+    nodes.len() / NODE
 }
 
 // How many differences there are.
 pub fn difference_count(differences: &[u32]) -> usize
     ensures { λ r. ⌜ r ≡ rowsIn differencePlace (now (differences .entry)) ⌝ }
 {
-    differences.len() / 3
+    differences.len() / DIFFERENCE
 }
 
 // The row of node v.
@@ -41,13 +48,14 @@ pub fn node_at(nodes: &[u32], v: usize) -> NodeRow
     requires { ⌜ nodePlace (v + 1) ≤ length (now nodes) ⌝ }
     ensures { λ r. ⌜ r ≡ nodeRow (now (nodes .entry)) v ⌝ }
 {
-    let row = v * 5;
+    let row = v * NODE;
     NodeRow {
         kind: nodes[row],
         output: nodes[row + 1],
         delay: nodes[row + 2],
         latency: nodes[row + 3],
         end: nodes[row + 4],
+        clock: nodes[row + 5],
     }
 }
 
@@ -65,11 +73,12 @@ pub fn put_row(nodes: &mut [u32], v: usize, row: NodeRow)
     requires { ⌜ nodePlace (v + 1) ≤ length (now nodes) ⌝ }
     ensures { λ _. ⌜ (take (nodePlace (v + 1)) (now (nodes .exit)) ≡ take (nodePlace v) (now (nodes .entry)) ++ rowNumbers row) × (length (now (nodes .exit)) ≡ length (now (nodes .entry))) ⌝ }
 {
-    let first = append(nodes, v * 5, row.kind);
+    let first = append(nodes, v * NODE, row.kind);
     let second = append(nodes, first, row.output);
     let third = append(nodes, second, row.delay);
     let fourth = append(nodes, third, row.latency);
-    append(nodes, fourth, row.end);
+    let fifth = append(nodes, fourth, row.end);
+    append(nodes, fifth, row.clock);
 }
 
 // Marks node v as an output.
@@ -77,7 +86,7 @@ pub fn mark_output(nodes: &mut [u32], v: usize)
     requires { ⌜ nodePlace (v + 1) ≤ length (now nodes) ⌝ }
     ensures { λ _. ⌜ now (nodes .exit) ≡ set (now (nodes .entry)) (markPlace v) 1 ⌝ }
 {
-    nodes[v * 5 + 1] = 1;
+    nodes[v * NODE + 1] = 1;
 }
 
 // The row of difference j.
@@ -85,7 +94,7 @@ pub fn difference_at(differences: &[u32], j: usize) -> DifferenceRow
     requires { ⌜ differencePlace (j + 1) ≤ length (now differences) ⌝ }
     ensures { λ r. ⌜ r ≡ differenceRow (now (differences .entry)) j ⌝ }
 {
-    let row = j * 3;
+    let row = j * DIFFERENCE;
     DifferenceRow {
         from: differences[row],
         to: differences[row + 1],

@@ -20,12 +20,12 @@ use Rattle.fields.specs.declared.Progress.the-variants.{Next}
 
 -- the numbers of a node before its operand ids, of which there are `count`
 abbrev pub headOf : (top : ℕ) → NodeRow → (count : ℕ) → List Entry
-headOf top row count = headEntries top (row .kind) (row .output) (row .delay) (row .latency) count
+headOf top row count = headEntries top (row .kind) (row .output) (row .delay) (row .latency) (row .clock) count
 
 -- where they pass, they and so many ids take at most the bytes of a node
 pub head-room : (top count : ℕ) (row : NodeRow) {a b : List ℕ} {p next : Position} → top ≤ topRange .high → Wrote (headOf top row count) a b p (Next next)
     → bytesMost (headOf top row count) + count * idBytesMost ≤ nodeBytesMost
-head-room top count row l (passed good f n) = head-ids-most top (row .kind) (row .output) (row .delay) (row .latency) count l (good .1 .1 .1 .1 .0)
+head-room top count row l (passed good f n) = head-ids-most top (row .kind) (row .output) (row .delay) (row .latency) (row .clock) count l (good .1 .1 .1 .1 .1 .0)
 
 end-most : (nodes operands : List ℕ) (v : ℕ) → endOf nodes operands v ≤ length operands
 end-most nodes operands zero = omega arith
@@ -60,5 +60,5 @@ node-bytes top nodes operands l v good =
       arith,
       most-append (headOf top r (length us)) (map (entry (under v)) us),
       ids-most v us,
-      head-ids-most top (r .kind) (r .output) (r .delay) (r .latency) (length us) l (good .1 .1 .1 .1 .0),
+      head-ids-most top (r .kind) (r .output) (r .delay) (r .latency) (r .clock) (length us) l (good .1 .1 .1 .1 .1 .0),
     )

@@ -17,7 +17,7 @@ use records::difference_count;
 use records::node_count;
 
 // Room for the longest sheet.
-pub type SheetBytes = [u8; 11785];
+pub type SheetBytes = [u8; 12041];
 
 // Makes the sheet, whatever the room.
 pub fn make_sheet(
@@ -67,7 +67,7 @@ pub fn write(
     ensures { λ r. ⌜ Answered (writing (recordsIn leaves top horizon (now (nodes .entry)) (now (operands .entry)) (now (differences .entry))) (length (now (buffer .entry))))
         (numberAnswered r) (placeAnswered r) (now (buffer .entry)) (now (buffer .exit)) ⌝ }
 {
-    let mut bytes = [0u8; 11785];
+    let mut bytes = [0u8; 12041];
     let made = make_sheet(
         leaves,
         top,

@@ -69,7 +69,7 @@ keep-one-requires-2 c κs =
     let ws = wordsAt (s .args .text .now) (s .args .rest) in
     let l : 2 ≤ s .args .count = shape (s .args .count) (c .before .before .before .enum-told3 .given .1) (s .pre .0 .1) in
     let n : 2 ≤ length ws = omega (arith, s .pre .0 .0, l) in
-    let o = lawful-one (s .pre .1 .0) (latch (getD ws 0 []) (getD ws 1 [])) (definition (getD ws 1 []) (box 1) (take 1 ws)) (latch-defined ws n) (known ws (c .before .before .before .enum-told3 .given .1) (s .pre .1 .2)) in
+    let o = lawful-one (s .pre .1 .0) (latch (getD ws 0 []) (getD ws 1 [])) (definition (getD ws 1 []) (box 1 0) (take 1 ws)) (latch-defined ws n) (known ws (c .before .before .before .enum-told3 .given .1) (s .pre .1 .2)) in
     ((omega (arith, n), o .short, omega (arith, o .room, kept-size (s .pre .1 .1)), omega arith), (s .pre .1 .0, s .pre .1 .1, o .new))
 
 returns : tie.Need-returns
@@ -101,7 +101,7 @@ returns-3 c =
     let l : 2 ≤ s .args .count = shape (s .args .count) t (s .pre .0 .1) in
     let n : 2 ≤ length ws = omega (arith, s .pre .0 .0, l) in
     λ ds q h.
-    let o = lawful-one ds (latch (getD ws 0 []) (getD ws 1 [])) (definition (getD ws 1 []) (box 1) (take 1 ws)) (latch-defined ws n) (known ws t h) in
+    let o = lawful-one ds (latch (getD ws 0 []) (getD ws 1 [])) (definition (getD ws 1 []) (box 1 0) (take 1 ws)) (latch-defined ws n) (known ws t h) in
     kept-same (adds ds ws t (latch-defined ws n)) (c .before .before .before .before .keep-one2 .ensures ds q (o .reads) (o .new))
 
 returns-4 : tie.Need-returns-4

@@ -1,5 +1,5 @@
 -- `call::write_model` meets its contract.
-use Prim.Native.Nat.{ℕ, _*_, _≤_}
+use Prim.Native.Nat.{ℕ, _≤_}
 use mathlib.Core.Path.{_≡_, refl, sym, ap, _∙_}
 use borrow.Author.Needs.{needs}
 use native.Mathlib.Omega.{arith}
@@ -7,7 +7,7 @@ use mathlib.Core.List.{[]}
 use lib.ListN.{length, take}
 use lib.Seq.{length-take-le}
 use Rattle.maps.specs.Write.{writing}
-use Rattle.records.specs.Rows.{recordsIn}
+use Rattle.records.specs.Rows.{nodePlace, recordsIn}
 use Rattle.blif.specs.Limits.{delay}
 use Rattle.importer.proofs.Calls.{answered-as, all-marked, one-undefined}
 use Rattle.importer.proofs.call.write_model.Statement.{statement}
@@ -30,7 +30,7 @@ aggregate-write : tie.Need-slice-aggregate-write
 aggregate-write c =
     let s = c .before .before .before .before .before .before .before .before .before .before .before .before in
     let k = s .pre .1 .2 in
-    sym (length-take-le (s .args .size .nodes * 5) (c .before .before .before .before .before .mark-outputs .last .1 .1 .1 .0) (omega (arith, c .before .before .before .before .before .mark-outputs .ensures .1, k .wide, k .listed .few)))
+    sym (length-take-le (nodePlace (s .args .size .nodes)) (c .before .before .before .before .before .mark-outputs .last .1 .1 .1 .0) (omega (arith, c .before .before .before .before .before .mark-outputs .ensures .1, k .wide, k .listed .few)))
 
 aggregate-write-2 : tie.Need-slice-aggregate-write-2
 aggregate-write-2 c =
@@ -53,9 +53,9 @@ returns-2 c =
     let s = c .before .before .before .before .before .before .before .before .before .before .before .before .before .before .before .before .before .before in
     let m = c .before .before .before .before .before .before .before .before .before .before .before .mark-outputs in
     λ caller M h el et eh k f.
-    answered-as (s .args .buffer .now) (ap (λ (x : ℕ). writing (recordsIn x (s .args .top) (s .args .horizon) (take (s .args .size .nodes * 5) (m .last .1 .1 .1 .0)) (take (s .args .size .operands) (s .args .operands .now)) []) (length (s .args .buffer .now))) (sym el)
-    ∙ ap (λ (x : ℕ). writing (recordsIn (caller .leaves) x (s .args .horizon) (take (s .args .size .nodes * 5) (m .last .1 .1 .1 .0)) (take (s .args .size .operands) (s .args .operands .now)) []) (length (s .args .buffer .now))) (sym et)
-    ∙ ap (λ (x : ℕ). writing (recordsIn (caller .leaves) (caller .top) x (take (s .args .size .nodes * 5) (m .last .1 .1 .1 .0)) (take (s .args .size .operands) (s .args .operands .now)) []) (length (s .args .buffer .now))) (sym eh)
+    answered-as (s .args .buffer .now) (ap (λ (x : ℕ). writing (recordsIn x (s .args .top) (s .args .horizon) (take (nodePlace (s .args .size .nodes)) (m .last .1 .1 .1 .0)) (take (s .args .size .operands) (s .args .operands .now)) []) (length (s .args .buffer .now))) (sym el)
+    ∙ ap (λ (x : ℕ). writing (recordsIn (caller .leaves) x (s .args .horizon) (take (nodePlace (s .args .size .nodes)) (m .last .1 .1 .1 .0)) (take (s .args .size .operands) (s .args .operands .now)) []) (length (s .args .buffer .now))) (sym et)
+    ∙ ap (λ (x : ℕ). writing (recordsIn (caller .leaves) (caller .top) x (take (nodePlace (s .args .size .nodes)) (m .last .1 .1 .1 .0)) (take (s .args .size .operands) (s .args .operands .now)) []) (length (s .args .buffer .now))) (sym eh)
     ∙ all-marked (s .args .text .now) caller M f h (s .pre .0) (m .last .1 .1 .1 .0) (m .result) (c .before .before .before .before .before .before .before .enum-told .given .1) k (m .ensures .0 (delay caller) M f (k .named) (k .rows)) (length (s .args .buffer .now)))
     (c .before .before .write .ensures)
 
