@@ -10,5 +10,5 @@ use Rattle.customer.specs.Keeping.{PlanKept}
 
 pub plan-kept : (bytes buffer : List ℕ) (number place : ℕ) (after : List ℕ) → Answered (outcome bytes (length buffer)) number place buffer after
     → PlanKept bytes buffer number place after
-plan-kept bytes buffer number place after is old r =
-    subst (λ (o : Outcome). Answered o number place buffer after) (keeps old bytes r .outcomes (length buffer)) is
+plan-kept bytes buffer number place after is =
+    record { kept = λ old r. subst (λ (o : Outcome). Answered o number place buffer after) (keeps old bytes r .outcomes (length buffer)) is }

@@ -8,6 +8,5 @@ use Rattle.former.specs.Rewritten.{Rewritten}
 
 -- where the sheet is one of document 01's form, rewritten with q = 0 in every node: number, place and every byte of the buffer are those of
 -- planning the sheet in that form
-abbrev pub PlanKept : (bytes buffer : List ℕ) (number place : ℕ) (after : List ℕ) → Type 0
-PlanKept bytes buffer number place after =
-    (old : List ℕ) → Rewritten old bytes → Answered (formerOutcome old (length buffer)) number place buffer after
+pub record PlanKept (bytes buffer : List ℕ) (number place : ℕ) (after : List ℕ) : Type 0 where
+  pub kept : (old : List ℕ) → Rewritten old bytes → Answered (formerOutcome old (length buffer)) number place buffer after
