@@ -22,7 +22,7 @@
  *  - It refuses with 8 to 11. First the caller's numbers and a text longer than MAPS_TEXT_MOST, 11 at place 0; then the first faulty line decides,
  *    and on one line 9, 10, 11 in that order; then an output without definition, 10 at its line; then 8.
  *  - The nodes of the sheet are the model's, in the order in which their names are defined, with the outputs marked and without differences: a .names
- *    is logic, or an input if it reads nothing; a .latch is a box with d = 0 and lat = 1. The d of logic is table_ps / level_ps, rounded up.
+ *    is logic, or an input if it reads nothing; a .latch is a box with d = 0, lat = 1 and q = 0. The d of logic is table_ps / level_ps, rounded up.
  *  - The sheet reads: maps_plan refuses it with none of 1 to 5.
  *
  * Asked of the caller: `sheet` of maps_plan, what the records of maps_write point to and `text` of maps_import are readable and the buffer is
@@ -48,9 +48,9 @@ extern "C" {
  * of 6 leaves). */
 #define MAPS_PLAN_MOST 4611
 
-/* Bytes that no sheet exceeds: 9 for the header (1 each for K and T, 3 for H, 2 each for n and m), 18 for each of 256 nodes (1 each for kind, mark, d
- * and operand count, 2 for lat, 2 for each of 6 operands), 7 for each of 1,024 differences (2 each for u and v, 3 for w). */
-#define MAPS_SHEET_MOST 11785
+/* Bytes that no sheet exceeds: 9 for the header (1 each for K and T, 3 for H, 2 each for n and m), 19 for each of 256 nodes (1 each for kind, mark,
+ * d, q and operand count, 2 for lat, 2 for each of 6 operands), 7 for each of 1,024 differences (2 each for u and v, 3 for w). */
+#define MAPS_SHEET_MOST 12041
 
 /* Bytes of the longest text that maps_import takes. */
 #define MAPS_TEXT_MOST 65536
@@ -107,13 +107,15 @@ enum maps_kind {
 
 /* A node. Its operands are those of the array `operands` of the records from the end of the node before it, for node 0 from the first, up to its own
  * end: the number of operands of all nodes up to and with this one. An end past the array counts as the array's length. An end that is not after
- * the start gives no operands, and the next node starts there. */
+ * the start gives no operands, and the next node starts there. In the sheet q stands after lat; here `clock_to_q` is the last member, and one that an
+ * initializer leaves out is 0. */
 struct maps_node {
     uint32_t kind;         /* a number of maps_kind */
     uint32_t output;       /* 1 if the node is an output, otherwise 0 */
     uint32_t delay;        /* d, in levels */
     uint32_t latency;      /* lat, in steps */
     uint32_t operands_end; /* the index in `operands` behind the last of this node's */
+    uint32_t clock_to_q;   /* q, the level of its last step at which a box with a latency delivers: its clock-to-Q level; 0 for every other node */
 };
 
 /* A difference: step of `to` >= step of `from` + `weight`. */
@@ -136,13 +138,14 @@ struct maps_sheet {
     size_t difference_count; /* m */
 };
 
-/* The call that maps_write makes: the records as rows of 32-bit numbers, five for a node and three for a difference, with w as the 32 bits of a
- * signed number. The lengths count numbers; an incomplete row at the end is ignored. No pointer may be null. */
+/* The call that maps_write makes: the records as rows of 32-bit numbers, six for a node (kind, output, delay, latency, operands_end, clock_to_q) and
+ * three for a difference, with w as the 32 bits of a signed number. The lengths count numbers; an incomplete row at the end is ignored. No pointer
+ * may be null. */
 struct maps_answer maps_write_rows(uint32_t leaves, uint32_t top, uint32_t horizon, const uint32_t *nodes, size_t nodes_len,
                                    const uint32_t *operands, size_t operands_len, const uint32_t *differences, size_t differences_len,
                                    uint8_t *sheet, size_t sheet_len);
 
-static_assert(sizeof(struct maps_node) == 5 * sizeof(uint32_t), "a node is a row of five numbers");
+static_assert(sizeof(struct maps_node) == 6 * sizeof(uint32_t), "a node is a row of six numbers");
 static_assert(sizeof(struct maps_difference) == 3 * sizeof(uint32_t), "a difference is a row of three numbers");
 
 /* Writes the sheet of records into a buffer. The records are handed over where they stand. */
@@ -151,7 +154,7 @@ static inline struct maps_answer maps_write(const struct maps_sheet *records, ui
     const uint32_t *nodes = records->node_count == 0 ? &none : (const uint32_t *)records->nodes;
     const uint32_t *operands = records->operand_count == 0 ? &none : records->operands;
     const uint32_t *differences = records->difference_count == 0 ? &none : (const uint32_t *)records->differences;
-    return maps_write_rows(records->leaves, records->top, records->horizon, nodes, 5 * records->node_count, operands, records->operand_count,
+    return maps_write_rows(records->leaves, records->top, records->horizon, nodes, 6 * records->node_count, operands, records->operand_count,
                            differences, 3 * records->difference_count, sheet, sheet_len);
 }
 

@@ -33,14 +33,14 @@ static const char HALL_TEXT[] =
     "10 0\n"
     ".end\n";
 
-static const uint8_t HALL_SHEET[41] = {
+static const uint8_t HALL_SHEET[47] = {
     0x03, 0x02, 0x04, 0x06, 0x00,
-    0x00, 0x00, 0x00, 0x00, 0x00,
-    0x00, 0x00, 0x00, 0x00, 0x00,
-    0x00, 0x00, 0x00, 0x00, 0x00,
-    0x01, 0x00, 0x01, 0x00, 0x02, 0x00, 0x01,
-    0x01, 0x00, 0x01, 0x00, 0x02, 0x03, 0x02,
-    0x01, 0x01, 0x01, 0x00, 0x02, 0x04, 0x03,
+    0x00, 0x00, 0x00, 0x00, 0x00, 0x00,
+    0x00, 0x00, 0x00, 0x00, 0x00, 0x00,
+    0x00, 0x00, 0x00, 0x00, 0x00, 0x00,
+    0x01, 0x00, 0x01, 0x00, 0x00, 0x02, 0x00, 0x01,
+    0x01, 0x00, 0x01, 0x00, 0x00, 0x02, 0x03, 0x02,
+    0x01, 0x01, 0x01, 0x00, 0x00, 0x02, 0x04, 0x03,
 };
 
 /* A text that is made here. */
@@ -141,14 +141,25 @@ static void the_hall(void) {
     check(same(answer, MAPS_ACCEPTED, asked.place) && holds, "hall, imported into as many bytes as its sheet's length");
 }
 
+/* A latch has q = 0: what reads it is at level d of its last step. */
+static void a_latch(void) {
+    static const char text[] = ".model m\n.inputs a\n.outputs c\n.latch a b\n.names b c\n1 1\n.end\n";
+    static const uint8_t latch_sheet[] = {3, 2, 4, 3, 0, 0, 0, 0, 0, 0, 0, 2, 0, 0, 1, 0, 1, 0, 1, 1, 1, 0, 0, 1, 1};
+    static const uint8_t latch_plan[] = {1, 0, 0, 1, 0, 0, 0, 1, 0, 1, 1, 1, 1, 1};
+    uint8_t plan[MAPS_PLAN_MOST];
+    int holds = answered(text, sizeof text - 1, &PLAIN, MAPS_ACCEPTED, sizeof latch_sheet, latch_sheet);
+    holds = same(maps_plan(latch_sheet, sizeof latch_sheet, plan, sizeof plan), MAPS_ACCEPTED, sizeof latch_plan) && holds;
+    check(holds && memcmp(plan, latch_plan, sizeof latch_plan) == 0, "a latch, imported and planned");
+}
+
 /* What is of the subset. */
 static void subset(void) {
-    static const uint8_t one[] = {0, 0, 0, 0, 0};
-    static const uint8_t marked[] = {0, 1, 0, 0, 0};
-    static const uint8_t both[] = {0, 0, 0, 0, 0, 0, 1, 0, 0, 0};
-    static const uint8_t latches[] = {0, 0, 0, 0, 0, 2, 0, 0, 1, 1, 0, 2, 1, 0, 1, 1, 1};
-    static const uint8_t table[] = {0, 0, 0, 0, 0, 1, 0, 1, 0, 2, 0, 0};
-    static const uint8_t constants[] = {0, 0, 0, 0, 0, 0, 0, 0, 0, 0};
+    static const uint8_t one[] = {0, 0, 0, 0, 0, 0};
+    static const uint8_t marked[] = {0, 1, 0, 0, 0, 0};
+    static const uint8_t both[] = {0, 0, 0, 0, 0, 0, 0, 1, 0, 0, 0, 0};
+    static const uint8_t latches[] = {0, 0, 0, 0, 0, 0, 2, 0, 0, 1, 0, 1, 0, 2, 1, 0, 1, 0, 1, 1};
+    static const uint8_t table[] = {0, 0, 0, 0, 0, 0, 1, 0, 1, 0, 0, 2, 0, 0};
+    static const uint8_t constants[] = {0, 0, 0, 0, 0, 0, 0, 0, 0, 0, 0, 0};
     taken("one input", ".model m\n.inputs a\n.end", 1, one, sizeof one);
     taken("lines without a word, blanks and tabs", "\n \t\n\t.model \t m\n\n .inputs a\n.end\t\n\n", 1, one, sizeof one);
     taken("comments, also inside a word and with a backslash", ".model m#\\\n.inputs a#b \\\n.end#", 1, one, sizeof one);
@@ -213,11 +224,11 @@ static void limits(void) {
     add("\n.inputs ", 1);
     add("y", 31);
     add("\n.end", 1);
-    made_is("names of 31 bytes", MAPS_ACCEPTED, 10);
+    made_is("names of 31 bytes", MAPS_ACCEPTED, 11);
     make(".model m\n.inputs");
     add_names(256);
     add("\n.end", 1);
-    made_is("256 nodes", MAPS_ACCEPTED, 6 + 256 * 5);
+    made_is("256 nodes", MAPS_ACCEPTED, 6 + 256 * 6);
     make(".model m\n.inputs");
     add_names(257);
     add("\n.end", 1);
@@ -269,17 +280,17 @@ static void caller(void) {
             check(answered("x", 1, c, MAPS_LIMIT, 0, NULL) && holds, name);
         } else {
             const uint8_t header[] = {(uint8_t)c->leaves, (uint8_t)c->top, (uint8_t)c->horizon, 2, 0};
-            uint8_t sheet[16] = {0, 0, 0, 0, 0, 0, 0, 0, 0, 0, 1, 0, (uint8_t)cases[i].delay, 0, 1, 0};
+            uint8_t sheet[18] = {0, 0, 0, 0, 0, 0, 0, 0, 0, 0, 0, 1, 0, (uint8_t)cases[i].delay, 0, 0, 1, 0};
             memcpy(sheet, header, sizeof header);
             check(answered(text, strlen(text), c, MAPS_ACCEPTED, sizeof sheet, sheet), name);
         }
     }
     static const struct caller far = {3, 2, 65535, 1, 1};
-    static const uint8_t far_sheet[] = {3, 2, 0xff, 0xff, 0x03, 2, 0, 0, 0, 0, 0, 0, 1, 0, 1, 0, 1, 0};
+    static const uint8_t far_sheet[] = {3, 2, 0xff, 0xff, 0x03, 2, 0, 0, 0, 0, 0, 0, 0, 1, 0, 1, 0, 0, 1, 0};
     check(answered(text, strlen(text), &far, MAPS_ACCEPTED, sizeof far_sheet, far_sheet), "H = 65,535");
     make(".model m\n.inputs a\n.end\n");
     add("\n", MAPS_TEXT_MOST - made_length);
-    made_is("a text of 65,536 bytes", MAPS_ACCEPTED, 10);
+    made_is("a text of 65,536 bytes", MAPS_ACCEPTED, 11);
     add("\n", 1);
     made_is("11: a text of 65,537 bytes", MAPS_LIMIT, 0);
     make("x");
@@ -302,6 +313,7 @@ static void words(void) {
 
 int main(void) {
     the_hall();
+    a_latch();
     subset();
     lines();
     names();

@@ -1,6 +1,6 @@
-/* A caller in C: the hall sheet of document 01 byte for byte, every number from 0 to 8 with its place, numbers of three bytes, exact and short
- * buffers, known bytes round the buffer, and the length of a plan. It counts cases, each of several comparisons. From the folder that holds include/,
- * tests/ and target/:
+/* A caller in C: the hall sheet of document 01 byte for byte, every number from 0 to 8 with its place, numbers of three bytes, memories that deliver
+ * after the clock edge, exact and short buffers, known bytes round the buffer, and the length of a plan. It counts cases, each of several
+ * comparisons. From the folder that holds include/, tests/ and target/:
  *
  *   gcc -std=c11 -Wall -Wextra -Wpedantic -Werror -Wconversion -Wshadow -Iinclude tests/c/plan.c -Ltarget/staticlib -lplanner -o target/plan_c
  */
@@ -93,15 +93,17 @@ static void grounds(void) {
     changed("3: K = 7", 0, 7, MAPS_VALUE, 0);
     changed("3: T = 0", 1, 0, MAPS_VALUE, 1);
     changed("3: kind 3", 5, 3, MAPS_VALUE, 5);
-    changed("3: u = 6", 41, 6, MAPS_VALUE, 41);
-    changed("3: v = 6", 42, 6, MAPS_VALUE, 42);
-    changed("4: node 3 reads itself", 26, 3, MAPS_OPERAND, 26);
-    changed("4: node 5 reads 127", 40, 127, MAPS_OPERAND, 40);
+    changed("3: q of an input", 9, 1, MAPS_VALUE, 9);
+    changed("3: q of a table", 27, 1, MAPS_VALUE, 27);
+    changed("3: u = 6", 47, 6, MAPS_VALUE, 47);
+    changed("3: v = 6", 48, 6, MAPS_VALUE, 48);
+    changed("4: node 3 reads itself", 30, 3, MAPS_OPERAND, 30);
+    changed("4: node 5 reads 127", 46, 127, MAPS_OPERAND, 46);
     uint8_t longer[sizeof HALL + 2] = {0};
     memcpy(longer, HALL, sizeof HALL);
     expect("5: one byte more", longer, sizeof HALL + 1, MAPS_BYTES_FOLLOW, sizeof HALL, NULL);
     expect("5: two bytes more", longer, sizeof HALL + 2, MAPS_BYTES_FOLLOW, sizeof HALL, NULL);
-    static const uint8_t wide[] = {2, 1, 0, 4, 0, 0, 0, 0, 0, 0, 0, 0, 0, 0, 0, 0, 0, 0, 0, 0, 1, 1, 1, 0, 3, 0, 1, 2};
+    static const uint8_t wide[] = {2, 1, 0, 4, 0, 0, 0, 0, 0, 0, 0, 0, 0, 0, 0, 0, 0, 0, 0, 0, 0, 0, 0, 1, 1, 1, 0, 0, 3, 0, 1, 2};
     expect("6: node 3 reads three inputs, K = 2", wide, sizeof wide, MAPS_NO_CUT, 3, NULL);
     changed("7: hall with H = 0", 2, 0, MAPS_LATE, 0);
 }
@@ -171,12 +173,60 @@ static void horizons(void) {
     expect("2: 84 80 00 as H", sheet, sizeof HALL + 2, MAPS_SPELLING, 2, NULL);
 }
 
+/* K = 2, T = 4, H = 9: an input, a box with d = 0 on it that has this lat and q, and a reader of the box. */
+static void memory(uint8_t sheet[25], uint8_t lat, uint8_t q, uint8_t kind, uint8_t delay) {
+    const uint8_t bytes[25] = {2, 4, 9, 3, 0, 0, 0, 0, 0, 0, 0, 2, 0, 0, lat, q, 1, 0, kind, 1, delay, 0, 0, 1, 1};
+    memcpy(sheet, bytes, sizeof bytes);
+}
+
+/* One case: the reader of the box with lat = 2 is at this step and level, as a table whose leaf the box is and as a box. */
+static void read_at(const char *name, uint8_t q, uint8_t delay, uint8_t step, uint8_t level) {
+    uint8_t sheet[25];
+    const uint8_t table[] = {step, 0, 0, 1, 0, 0, 0, 1, 0, step, level, 1, 1, 1};
+    const uint8_t box[] = {step, 0, 0, 1, 0, 0, 0, 1, 0, step, level, 1, 0};
+    memory(sheet, 2, q, MAPS_LOGIC, delay);
+    int holds = planned(sheet, sizeof sheet, ROOM, MAPS_ACCEPTED, sizeof table, table);
+    holds = planned(sheet, sizeof sheet, sizeof table - 1, MAPS_BUFFER_SHORT, sizeof table, NULL) && holds;
+    memory(sheet, 2, q, MAPS_BOX, delay);
+    holds = planned(sheet, sizeof sheet, sizeof box, MAPS_ACCEPTED, sizeof box, box) && holds;
+    check(same(maps_plan_length(sheet, sizeof sheet), MAPS_ACCEPTED, sizeof box) && holds, name);
+}
+
+/* One case: a box with this lat and q is refused at its q, which is byte 15. */
+static void wrong_q(const char *name, uint8_t lat, uint8_t q) {
+    uint8_t sheet[25];
+    memory(sheet, lat, q, MAPS_LOGIC, 1);
+    expect(name, sheet, sizeof sheet, MAPS_VALUE, 15, NULL);
+}
+
+/* Memories that deliver some levels into the step: a box with lat = 2 and q is ready at (2, q). */
+static void memories(void) {
+    read_at("q = 3, d = 1: in the same step", 3, 1, 2, 4);
+    read_at("q = 3, d = 2: in the next step", 3, 2, 3, 2);
+    read_at("q = 0, d = 1", 0, 1, 2, 1);
+    read_at("q = 0, d = T", 0, 4, 2, 4);
+    read_at("q = T, d = 1", 4, 1, 3, 1);
+    read_at("q = T, d = T", 4, 4, 3, 4);
+    wrong_q("3: q = T + 1", 2, 5);
+    wrong_q("3: q = 127", 2, 127);
+    wrong_q("3: q = 1 of a box with lat = 0", 0, 1);
+    /* A table with d = 1 hides one with d = 2, which is (3, 2): its step is waited for, and its level is not. */
+    static const uint8_t hiding[] = {2, 4, 9, 4, 0, 0, 0, 0, 0, 0, 0, 2, 0, 0, 2, 3, 1, 0, 1, 0, 2, 0, 0, 1, 1, 1, 1, 1, 0, 0, 1, 2};
+    static const uint8_t hiding_plan[] = {3, 0, 0, 1, 0, 0, 0, 1, 0, 3, 2, 0, 0, 3, 1, 1, 1, 1};
+    expect("a hidden reader", hiding, sizeof hiding, MAPS_ACCEPTED, sizeof hiding_plan, hiding_plan);
+    /* The reader is in step 3 for its level alone, past H = 2. */
+    uint8_t late[25];
+    memory(late, 2, 3, MAPS_LOGIC, 2);
+    late[2] = 2;
+    expect("7: late by q", late, sizeof late, MAPS_LATE, 0, NULL);
+}
+
 /* Sheets and buffers of length 0, and a plan's length. */
 static void lengths(void) {
     static const uint8_t none[1] = {0};
     expect("no sheet", none, 0, MAPS_SHEET_ENDS, 0, NULL);
     check(same(maps_plan_length(NULL, 0), MAPS_SHEET_ENDS, 0), "the length for no sheet, null");
-    static const uint8_t one_input[] = {2, 1, 0, 1, 0, 0, 0, 0, 0, 0};
+    static const uint8_t one_input[] = {2, 1, 0, 1, 0, 0, 0, 0, 0, 0, 0};
     static const uint8_t one_input_plan[] = {0, 0, 0, 0, 0};
     expect("one input", one_input, sizeof one_input, MAPS_ACCEPTED, 5, one_input_plan);
     check(planned(one_input, sizeof one_input, 5, MAPS_ACCEPTED, 5, one_input_plan), "one input, exact buffer");
@@ -203,6 +253,7 @@ int main(void) {
     hall();
     grounds();
     horizons();
+    memories();
     lengths();
     words();
     return counted();

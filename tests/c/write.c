@@ -1,6 +1,6 @@
-/* A caller in C that has records: the hall sheet of document 01 written byte for byte and planned, every refusal with its place, the first of several,
- * exact and short buffers, known bytes round the buffer, ends of operands in every order, and the length of a sheet. It counts cases, each of several
- * comparisons. From the folder that holds include/, tests/ and target/:
+/* A caller in C that has records: the hall sheet of document 01 written byte for byte and planned, memories that deliver after the clock edge, every
+ * refusal with its place, the first of several, exact and short buffers, known bytes round the buffer, ends of operands in every order, and the
+ * length of a sheet. It counts cases, each of several comparisons. From the folder that holds include/, tests/ and target/:
  *
  *   gcc -std=c11 -Wall -Wextra -Wpedantic -Werror -Wconversion -Wshadow -Iinclude tests/c/write.c -Ltarget/staticlib -lplanner -o target/write_c
  */
@@ -16,15 +16,15 @@ static struct maps_difference differences[1025];
 static struct maps_sheet records;
 
 /* Places of numbers in the hall sheet: the first of a node, and of its difference. */
-enum { NODE_0 = 5, NODE_2 = 15, NODE_3 = 20, NODE_4 = 27, NODE_5 = 34, DIFFERENCE = 41 };
+enum { NODE_0 = 5, NODE_2 = 17, NODE_3 = 23, NODE_4 = 31, NODE_5 = 39, DIFFERENCE = 47 };
 /* Places in a node. */
-enum { KIND, MARK, DELAY, LATENCY, COUNT, OPERANDS };
+enum { KIND, MARK, DELAY, LATENCY, CLOCK_TO_Q, COUNT, OPERANDS };
 
 /* Sets the records to those of hall; all nodes past it are inputs, all operands 0, all differences (0, 0, 0). */
 static void hall(void) {
     static const struct maps_node hall_nodes[6] = {
-        {MAPS_INPUT, 0, 0, 0, 0}, {MAPS_INPUT, 0, 0, 0, 0}, {MAPS_INPUT, 0, 0, 0, 0},
-        {MAPS_LOGIC, 0, 1, 0, 2}, {MAPS_LOGIC, 0, 1, 0, 4}, {MAPS_LOGIC, 1, 1, 0, 6},
+        {MAPS_INPUT, 0, 0, 0, 0, 0}, {MAPS_INPUT, 0, 0, 0, 0, 0}, {MAPS_INPUT, 0, 0, 0, 0, 0},
+        {MAPS_LOGIC, 0, 1, 0, 2, 0}, {MAPS_LOGIC, 0, 1, 0, 4, 0}, {MAPS_LOGIC, 1, 1, 0, 6, 0},
     };
     static const uint32_t hall_operands[6] = {0, 1, 3, 2, 4, 3};
     memset(nodes, 0, sizeof nodes);
@@ -109,11 +109,18 @@ static void values(void) {
     wrong("3: d of a table", &nodes[3].delay, 0, 3, MAPS_VALUE, NODE_3 + DELAY);
     wrong("3: lat of an input", &nodes[0].latency, 1, 255, MAPS_VALUE, NODE_0 + LATENCY);
     wrong("3: lat of a table", &nodes[4].latency, 1, 255, MAPS_VALUE, NODE_4 + LATENCY);
+    wrong("3: q of an input, number 9", &nodes[0].clock_to_q, 1, 2, MAPS_VALUE, 9);
+    wrong("3: q of a table", &nodes[4].clock_to_q, 1, 64, MAPS_VALUE, NODE_4 + CLOCK_TO_Q);
     wrong("3: u", &differences[0].from, 6, 255, MAPS_VALUE, DIFFERENCE);
     wrong("3: v", &differences[0].to, 6, 256, MAPS_VALUE, DIFFERENCE + 1);
     nodes[4].kind = MAPS_BOX;
     wrong("3: d of a box", &nodes[4].delay, 3, 64, MAPS_VALUE, NODE_4 + DELAY);
     wrong("3: lat of a box", &nodes[4].latency, 256, 257, MAPS_VALUE, NODE_4 + LATENCY);
+    wrong("3: q of a box with lat = 0", &nodes[4].clock_to_q, 1, 2, MAPS_VALUE, NODE_4 + CLOCK_TO_Q);
+    nodes[4].latency = 1;
+    wrong("3: q of a box with lat = 1", &nodes[4].clock_to_q, 3, 64, MAPS_VALUE, NODE_4 + CLOCK_TO_Q);
+    nodes[4].clock_to_q = 2;
+    wrong("3: q = T of a box with lat = 1", &nodes[4].clock_to_q, 3, 65, MAPS_VALUE, NODE_4 + CLOCK_TO_Q);
     static const int32_t weights[] = {65536, -65536, 131071, -131072, 1048576, -1048576, INT32_MAX, INT32_MIN};
     int holds = 1;
     for (size_t i = 0; i < sizeof weights / sizeof *weights; i++) {
@@ -219,7 +226,7 @@ static void order(void) {
     hall();
     wrong("4: node 3 reads itself or node 4", &operands[1], 3, 4, MAPS_OPERAND, NODE_3 + OPERANDS + 1);
     wrong("4: node 5 reads itself or node 255", &operands[4], 5, 255, MAPS_OPERAND, NODE_5 + OPERANDS);
-    nodes[0] = (struct maps_node){MAPS_BOX, 0, 0, 0, 1};
+    nodes[0] = (struct maps_node){MAPS_BOX, 0, 0, 0, 1, 0};
     wrong("4: node 0 reads itself", &operands[0], 0, 1, MAPS_OPERAND, NODE_0 + OPERANDS);
     /* From the last number to the first. */
     hall();
@@ -230,6 +237,8 @@ static void order(void) {
     holds = answered(MAPS_VALUE, DIFFERENCE + 1, NULL) && holds;
     operands[5] = 6;
     holds = answered(MAPS_OPERAND, NODE_5 + OPERANDS + 1, NULL) && holds;
+    nodes[5].clock_to_q = 1;
+    holds = answered(MAPS_VALUE, NODE_5 + CLOCK_TO_Q, NULL) && holds;
     nodes[5].delay = 0;
     holds = answered(MAPS_VALUE, NODE_5 + DELAY, NULL) && holds;
     operands[0] = UINT32_MAX;
@@ -262,41 +271,90 @@ static void rows(void) {
     hall();
     nodes[5].operands_end = UINT32_MAX;
     expect("hall with an end past the array", MAPS_ACCEPTED, sizeof HALL, HALL);
-    static const struct maps_node falling[4] = {{MAPS_INPUT, 0, 0, 0, 0}, {MAPS_BOX, 0, 0, 0, 1}, {MAPS_BOX, 0, 0, 0, 0}, {MAPS_BOX, 1, 0, 0, 3}};
+    static const struct maps_node falling[4] = {
+        {MAPS_INPUT, 0, 0, 0, 0, 0}, {MAPS_BOX, 0, 0, 0, 1, 0}, {MAPS_BOX, 0, 0, 0, 0, 0}, {MAPS_BOX, 1, 0, 0, 3, 0}};
     static const uint32_t three[3] = {0, 1, 2};
-    static const uint8_t falling_sheet[] = {2, 1, 0, 4, 0, 0, 0, 0, 0, 0, 2, 0, 0, 0, 1, 0, 2, 0, 0, 0, 0, 2, 1, 0, 0, 3, 0, 1, 2};
+    static const uint8_t falling_sheet[] = {2, 1, 0, 4, 0, 0, 0, 0, 0, 0, 0, 2, 0, 0, 0, 0, 1, 0, 2, 0, 0, 0, 0, 0, 2, 1, 0, 0, 0, 3, 0, 1, 2};
     records = (struct maps_sheet){2, 1, 0, falling, 4, three, 3, NULL, 0};
     expect("an end that falls: no operands, and the next from there", MAPS_ACCEPTED, sizeof falling_sheet, falling_sheet);
-    static const struct maps_node past[4] = {{MAPS_INPUT, 0, 0, 0, 0}, {MAPS_BOX, 0, 0, 0, 4}, {MAPS_BOX, 0, 0, 0, 9}, {MAPS_BOX, 1, 0, 0, 2}};
+    static const struct maps_node past[4] = {
+        {MAPS_INPUT, 0, 0, 0, 0, 0}, {MAPS_BOX, 0, 0, 0, 4, 0}, {MAPS_BOX, 0, 0, 0, 9, 0}, {MAPS_BOX, 1, 0, 0, 2, 0}};
     static const uint32_t zeros[3] = {0, 0, 0};
-    static const uint8_t past_sheet[] = {2, 1, 0, 4, 0, 0, 0, 0, 0, 0, 2, 0, 0, 0, 3, 0, 0, 0, 2, 0, 0, 0, 0, 2, 1, 0, 0, 0};
+    static const uint8_t past_sheet[] = {2, 1, 0, 4, 0, 0, 0, 0, 0, 0, 0, 2, 0, 0, 0, 0, 3, 0, 0, 0, 2, 0, 0, 0, 0, 0, 2, 1, 0, 0, 0, 0};
     records = (struct maps_sheet){2, 1, 0, past, 4, zeros, 3, NULL, 0};
     expect("ends past the array, and one that falls after them", MAPS_ACCEPTED, sizeof past_sheet, past_sheet);
-    static const uint8_t one_input[] = {2, 1, 0, 1, 0, 0, 0, 0, 0, 0};
+    static const uint8_t one_input[] = {2, 1, 0, 1, 0, 0, 0, 0, 0, 0, 0};
     records = (struct maps_sheet){2, 1, 0, falling, 1, NULL, 0, NULL, 0};
     expect("one input, no operands and differences, null", MAPS_ACCEPTED, sizeof one_input, one_input);
     records = (struct maps_sheet){2, 1, 0, NULL, 0, NULL, 0, NULL, 0};
     expect("3: no nodes, null", MAPS_VALUE, 3, NULL);
-    static const uint32_t pair[14] = {0, 0, 0, 0, 0, 0, 0, 0, 0, 0, 9, 9, 9, 9};
+    static const uint32_t pair[17] = {0, 0, 0, 0, 0, 0, 0, 0, 0, 0, 0, 0, 9, 9, 9, 9, 9};
     static const uint32_t equal[5] = {0, 1, UINT32_MAX, 9, 9};
-    static const uint8_t pair_sheet[] = {2, 1, 0, 2, 1, 0, 0, 0, 0, 0, 0, 0, 0, 0, 0, 0, 1, 1};
+    static const uint8_t pair_sheet[] = {2, 1, 0, 2, 1, 0, 0, 0, 0, 0, 0, 0, 0, 0, 0, 0, 0, 0, 1, 1};
     uint8_t sheet[sizeof pair_sheet];
     int holds = 1;
-    for (size_t more = 0; more < 5; more++) {
+    for (size_t more = 0; more < 6; more++) {
         size_t few = more < 3 ? more : 2;
         memset(sheet, 0xa5, sizeof sheet);
-        holds = same(maps_write_rows(2, 1, 0, pair, 10 + more, three, 0, equal, 3 + few, sheet, sizeof sheet), 0, sizeof sheet) && holds;
+        holds = same(maps_write_rows(2, 1, 0, pair, 12 + more, three, 0, equal, 3 + few, sheet, sizeof sheet), 0, sizeof sheet) && holds;
         holds = memcmp(sheet, pair_sheet, sizeof sheet) == 0 && holds;
         holds = same(maps_write_rows(2, 1, 0, pair, more, three, 0, equal, 0, sheet, sizeof sheet), MAPS_VALUE, 3) && holds;
     }
     check(holds, "rows that are not complete are ignored");
 }
 
+/* An input, a box on it with d = 0 and lat = 2, and a table on the box: the sheet of the records and its plan are these. */
+static int written_and_planned(const struct maps_node three[3], const uint8_t *sheet, size_t length, const uint8_t *plan, size_t plan_length) {
+    static const uint32_t reads[2] = {0, 1};
+    uint8_t written_sheet[32], written_plan[32];
+    records = (struct maps_sheet){2, 4, 9, three, 3, reads, 2, NULL, 0};
+    int holds = answered(MAPS_ACCEPTED, length, sheet);
+    holds = same(maps_write(&records, written_sheet, sizeof written_sheet), MAPS_ACCEPTED, length) && holds;
+    holds = same(maps_plan(written_sheet, length, written_plan, sizeof written_plan), MAPS_ACCEPTED, plan_length) && holds;
+    return holds && memcmp(written_plan, plan, plan_length) == 0;
+}
+
+/* One case: with this q of the box and d of the table the table is at this step and level. */
+static void read_at(const char *name, uint8_t q, uint8_t delay, uint8_t step, uint8_t level) {
+    const struct maps_node three[3] = {{MAPS_INPUT, 0, 0, 0, 0, 0}, {MAPS_BOX, 0, 0, 2, 1, q}, {MAPS_LOGIC, 1, delay, 0, 2, 0}};
+    const uint8_t sheet[] = {2, 4, 9, 3, 0, 0, 0, 0, 0, 0, 0, 2, 0, 0, 2, q, 1, 0, 1, 1, delay, 0, 0, 1, 1};
+    const uint8_t plan[] = {step, 0, 0, 1, 0, 0, 0, 1, 0, step, level, 1, 1, 1};
+    check(written_and_planned(three, sheet, sizeof sheet, plan, sizeof plan), name);
+}
+
+/* Memories that deliver some levels into the step: the box with lat = 2 is ready at (2, q). */
+static void memories(void) {
+    read_at("q = 3, d = 1: in the same step", 3, 1, 2, 4);
+    read_at("q = 3, d = 2: in the next step", 3, 2, 3, 2);
+    read_at("q = 0", 0, 1, 2, 1);
+    read_at("q = T", 4, 1, 3, 1);
+    /* A member that is left out is 0. */
+    static const struct maps_node left_out[3] = {
+        {.kind = MAPS_INPUT},
+        {.kind = MAPS_BOX, .latency = 2, .operands_end = 1},
+        {.kind = MAPS_LOGIC, .output = 1, .delay = 1, .operands_end = 2},
+    };
+    static const uint8_t sheet[] = {2, 4, 9, 3, 0, 0, 0, 0, 0, 0, 0, 2, 0, 0, 2, 0, 1, 0, 1, 1, 1, 0, 0, 1, 1};
+    static const uint8_t plan[] = {2, 0, 0, 1, 0, 0, 0, 1, 0, 2, 1, 1, 1, 1};
+    check(written_and_planned(left_out, sheet, sizeof sheet, plan, sizeof plan), "an initializer without the last member: q = 0");
+    /* A table with d = 1 hides one with d = 2, which is (3, 2): its step is waited for, and its level is not. */
+    static const struct maps_node hiding[4] = {
+        {MAPS_INPUT, 0, 0, 0, 0, 0}, {MAPS_BOX, 0, 0, 2, 1, 3}, {MAPS_LOGIC, 0, 2, 0, 2, 0}, {MAPS_LOGIC, 1, 1, 0, 3, 0}};
+    static const uint32_t chain[3] = {0, 1, 2};
+    static const uint8_t hiding_sheet[] = {2, 4, 9, 4, 0, 0, 0, 0, 0, 0, 0, 2, 0, 0, 2, 3, 1, 0, 1, 0, 2, 0, 0, 1, 1, 1, 1, 1, 0, 0, 1, 2};
+    static const uint8_t hiding_plan[] = {3, 0, 0, 1, 0, 0, 0, 1, 0, 3, 2, 0, 0, 3, 1, 1, 1, 1};
+    uint8_t written_plan[32];
+    records = (struct maps_sheet){2, 4, 9, hiding, 4, chain, 3, NULL, 0};
+    int holds = answered(MAPS_ACCEPTED, sizeof hiding_sheet, hiding_sheet);
+    holds = same(maps_plan(hiding_sheet, sizeof hiding_sheet, written_plan, sizeof written_plan), MAPS_ACCEPTED, sizeof hiding_plan) && holds;
+    check(holds && memcmp(written_plan, hiding_plan, sizeof hiding_plan) == 0, "a hidden reader");
+}
+
 /* The longest sheet: 256 nodes, boxes of six operands past node 0, 1,024 differences, as many bytes as a number may have. */
 static void longest(void) {
     hall();
     for (uint32_t v = 0; v < 256; v++) {
-        nodes[v] = (struct maps_node){MAPS_BOX, 1, 64, 255, 6 * v};
+        nodes[v] = (struct maps_node){MAPS_BOX, 1, 64, 255, 6 * v, 64};
         for (uint32_t i = 0; i < 6 && v > 0; i++) {
             operands[6 * (v - 1) + i] = v - 1;
         }
@@ -305,19 +363,20 @@ static void longest(void) {
         differences[i] = (struct maps_difference){255, 128, i % 2 == 0 ? 65535 : -65535};
     }
     records = (struct maps_sheet){6, 64, 65535, nodes, 256, operands, 6 * 255, differences, 1024};
-    /* Node 0 has 6 bytes, nodes 1 to 128 have 12 and the others 18. */
-    size_t length = 9 + 6 + 128 * 12 + 127 * 18 + 1024 * 7;
+    /* Node 0 has 7 bytes, nodes 1 to 128 have 13 and the others 19. */
+    size_t length = 9 + 7 + 128 * 13 + 127 * 19 + 1024 * 7;
     expect("the longest sheet", MAPS_ACCEPTED, length, NULL);
     check(length <= MAPS_SHEET_MOST && written(length, MAPS_ACCEPTED, length, NULL), "the longest sheet, exact buffer");
     check(written(length - 1, MAPS_BUFFER_SHORT, length, NULL), "8: the longest sheet, one byte short");
     uint8_t sheet[MAPS_SHEET_MOST];
     struct maps_answer answer = maps_write(&records, sheet, sizeof sheet);
     check(maps_accepted(answer) && same(maps_plan_length(sheet, (size_t)answer.place), MAPS_LATE, 0), "the longest sheet reads");
-    /* Without a w that is above 0 box v is at step 255 v: one byte at node 0, two up to node 64, three from there. */
+    /* Without a w that is above 0 box v is at step 256 v, since q leaves no level for a reader: one byte at node 0, two up to node 63, three from
+     * there. The last box is ready at H. */
     for (size_t i = 0; i < 1024; i += 2) {
         differences[i].weight = -65535;
     }
-    size_t plan_length = 3 + 4 + 64 * 5 + 191 * 6;
+    size_t plan_length = 3 + 4 + 63 * 5 + 192 * 6;
     answer = maps_write(&records, sheet, sizeof sheet);
     int holds = same(answer, MAPS_ACCEPTED, length);
     check(same(maps_plan_length(sheet, (size_t)answer.place), MAPS_ACCEPTED, plan_length) && holds, "the longest sheet, planned");
@@ -330,6 +389,7 @@ int main(void) {
     counts();
     order();
     rows();
+    memories();
     longest();
     return counted();
 }

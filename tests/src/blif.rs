@@ -267,11 +267,11 @@ impl Model {
         }
     }
 
-    /// Defines a name: the next node.
+    /// Defines a name: the next node. Its q is 0 (U5).
     fn define(&mut self, name: &Word, kind: u32, delay: u32, latency: u32, reads: &[Word]) {
         let operands = reads.iter().map(|name| self.ids[name] as u32).collect();
         self.ids.insert(name.clone(), self.nodes.len());
-        self.nodes.push(Node { kind, output: 0, delay, latency, operands });
+        self.nodes.push(Node { kind, output: 0, delay, latency, clock_to_q: 0, operands });
     }
 
     /// Takes a line without fault, d being `delay`.

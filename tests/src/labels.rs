@@ -1,4 +1,4 @@
-//! Legal and least labellings by brute force: the conditions of document 01 as written, over all fitting cuts.
+//! Legal and least labellings by brute force: the conditions of document 01 as written, with document 02's ready label (U5), over all fitting cuts.
 use crate::cones;
 use crate::reader::{Node, Sheet};
 
@@ -14,12 +14,12 @@ pub fn plus(label: Label, delay: u32, top: u32) -> Label {
     }
 }
 
-/// The ready label of a node.
+/// The ready label of a node: of one with a latency, level q of its last step (document 02, U5).
 pub fn ready(node: &Node, label: Label) -> Label {
     if node.latency == 0 {
         label
     } else {
-        (label.0 + node.latency, 0)
+        (label.0 + node.latency, node.clock_to_q)
     }
 }
 

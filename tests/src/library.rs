@@ -3,7 +3,7 @@
 use crate::blif::Caller;
 #[cfg(planner)]
 use crate::buffer::{after, lent};
-use crate::reader::Sheet;
+use crate::reader::{Node, Sheet};
 #[cfg(planner)]
 use crate::writer::Rows;
 
@@ -62,12 +62,14 @@ impl Tables {
         Tables { graph: [value; 4096], differences: [value; 4096] }
     }
 
-    /// The tables as the crate `sheet` lays them down: sixteen numbers for a node, four for a difference, 0 elsewhere.
+    /// The tables as the crate `sheet` lays them down: sixteen numbers for a node (kind, mark, d, lat, q, operand count, operands), four for a
+    /// difference, 0 elsewhere.
     pub fn of(sheet: &Sheet) -> Tables {
         let mut tables = Tables::filled_with(0);
         for (row, node) in tables.graph.chunks_mut(16).zip(&sheet.nodes) {
-            row[..5].copy_from_slice(&[node.kind, node.output as u32, node.delay, node.latency, node.operands.len() as u32]);
-            row[5..5 + node.operands.len()].copy_from_slice(&node.operands);
+            let Node { kind, output, delay, latency, clock_to_q, ref operands } = *node;
+            row[..6].copy_from_slice(&[kind, output as u32, delay, latency, clock_to_q, operands.len() as u32]);
+            row[6..6 + operands.len()].copy_from_slice(operands);
         }
         for (row, difference) in tables.differences.chunks_mut(4).zip(&sheet.differences) {
             let w = difference.weight;

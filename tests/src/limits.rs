@@ -1,5 +1,5 @@
-//! The ranges of document 01's section "The sheet", with the H, w and numbers of document 02 (U2), each from its least to its greatest value, for the
-//! tests' own reader and for the test of each limit.
+//! The ranges of document 01's section "The sheet", with the H, w and numbers of document 02 (U2) and its q (U5), each from its least to its greatest
+//! value, for the tests' own reader and for the test of each limit.
 
 /// From the least to the greatest value.
 pub type Range = (u32, u32);
@@ -38,5 +38,13 @@ pub const fn fields(kind: u32, top: u32) -> Fields {
         0 => Fields { delay: (0, 0), latency: (0, 0), operands: (0, 0) },
         1 => Fields { delay: (1, top), latency: (0, 0), operands: (1, 6) },
         _ => Fields { delay: (0, top), latency: (0, 255), operands: (0, 6) },
+    }
+}
+
+/// q, which stands after lat (U5): 0 to T for a box with lat of 1 or more, 0 for all others.
+pub const fn clock_to_q(kind: u32, latency: u32, top: u32) -> Range {
+    match (kind, latency) {
+        (2, 1..) => (0, top),
+        _ => (0, 0),
     }
 }

@@ -1,5 +1,5 @@
 //! Made-up sheets: within the ranges, and damaged in one place.
-use crate::limits::{fields, width, Range, CODE, H, K, M, N, NUMBER, SIZES, T, W};
+use crate::limits::{clock_to_q, fields, width, Range, CODE, H, K, M, N, NUMBER, SIZES, T, W};
 use crate::random::Random;
 use crate::reader::{Difference, Node, Sheet};
 
@@ -18,7 +18,7 @@ pub fn put(bytes: &mut Vec<u8>, value: u32) {
 pub fn numbers(sheet: &Sheet) -> Vec<u32> {
     let mut all = vec![sheet.leaves, sheet.top, sheet.horizon, sheet.nodes.len() as u32, sheet.differences.len() as u32];
     for node in &sheet.nodes {
-        all.extend([node.kind, node.output as u32, node.delay, node.latency, node.operands.len() as u32]);
+        all.extend([node.kind, node.output as u32, node.delay, node.latency, node.clock_to_q, node.operands.len() as u32]);
         all.extend(&node.operands);
     }
     for difference in &sheet.differences {
@@ -72,6 +72,16 @@ fn any_weight(random: &mut Random) -> i32 {
     weight(of_any_size(random, CODE))
 }
 
+/// q of a node: where it has a latency often 0, often T and sometimes between, otherwise 0.
+pub fn any_q(random: &mut Random, latency: u32, top: u32) -> u32 {
+    match random.within(0, 4) {
+        _ if latency == 0 => 0,
+        0 | 1 => 0,
+        2 | 3 => top,
+        _ => random.within(0, top),
+    }
+}
+
 fn node(random: &mut Random, own: u32, top: u32) -> Node {
     let kind = if own == 0 { 0 } else { random.within(0, 2) };
     let output = random.once_in(3);
@@ -80,9 +90,10 @@ fn node(random: &mut Random, own: u32, top: u32) -> Node {
     }
     let fields = fields(kind, top);
     let delay = any(random, fields.delay);
-    let latency = if kind == 2 { any(random, fields.latency) } else { 0 };
+    let latency = if kind == 2 && !random.once_in(4) { any(random, fields.latency) } else { 0 };
+    let clock_to_q = any_q(random, latency, top);
     let count = any(random, fields.operands);
-    Node { kind, output, delay, latency, operands: (0..count).map(|_| random.within(0, own - 1)).collect() }
+    Node { kind, output, delay, latency, clock_to_q, operands: (0..count).map(|_| random.within(0, own - 1)).collect() }
 }
 
 /// A sheet with all values in their ranges, of up to `most` nodes.
@@ -119,11 +130,11 @@ fn odd_byte(random: &mut Random) -> u8 {
     }
 }
 
-/// The bytes of a sheet with one thing wrong: a number, its spelling, a byte, or the length.
+/// The bytes of a sheet with one thing wrong: a number, its spelling, a byte, the length, or the q of a node.
 pub fn damaged(random: &mut Random, sheet: &Sheet) -> Vec<u8> {
     let mut all = numbers(sheet);
     let i = random.within(0, all.len() as u32 - 1) as usize;
-    match random.within(0, 5) {
+    match random.within(0, 6) {
         0 => {
             all[i] = of_any_size(random, (0, NUMBER));
             spelled(&all)
@@ -152,13 +163,30 @@ pub fn damaged(random: &mut Random, sheet: &Sheet) -> Vec<u8> {
             }
             bytes
         }
-        _ => {
+        5 => {
             let mut bytes = spelled(&all);
             for _ in 0..random.within(1, 3) {
                 bytes.push(random.next() as u8);
             }
             bytes
         }
+        _ => {
+            let mut sheet = sheet.clone();
+            let own = random.within(0, sheet.nodes.len() as u32 - 1) as usize;
+            sheet.nodes[own].clock_to_q = wrong_q(random, &sheet.nodes[own], sheet.top);
+            spelled(&numbers(&sheet))
+        }
+    }
+}
+
+/// A q that a node may not have: one past its range, T + 1, or any further.
+pub fn wrong_q(random: &mut Random, node: &Node, top: u32) -> u32 {
+    let most = clock_to_q(node.kind, node.latency, top).1;
+    match random.within(0, 3) {
+        0 => most + 1,
+        1 => top + 1,
+        2 => random.within(most + 1, top + 1),
+        _ => of_any_size(random, (most + 1, NUMBER)),
     }
 }
 
@@ -174,7 +202,8 @@ pub fn greatest_up_to(random: &mut Random, far: u32) -> Sheet {
             let operands: Vec<u32> = if own == 0 { Vec::new() } else { (0..6).map(|_| own - 1 - random.within(0, (own - 1).min(7))).collect() };
             let kind = if own == 0 { 0 } else { 2 - own % 2 };
             let fields = fields(kind, T.1);
-            Node { kind, output: true, delay: fields.delay.1, latency: fields.latency.1, operands }
+            let (latency, clock_to_q) = (fields.latency.1, clock_to_q(kind, fields.latency.1, T.1).1);
+            Node { kind, output: true, delay: fields.delay.1, latency, clock_to_q, operands }
         })
         .collect();
     let weight = |i: u32| if i % 2 == 0 { far as i32 } else { -(far as i32) };
@@ -184,12 +213,12 @@ pub fn greatest_up_to(random: &mut Random, far: u32) -> Sheet {
 
 /// An input that is no output.
 pub fn input() -> Node {
-    Node { kind: 0, output: false, delay: 0, latency: 0, operands: Vec::new() }
+    Node { kind: 0, output: false, delay: 0, latency: 0, clock_to_q: 0, operands: Vec::new() }
 }
 
 /// A table with d = 1.
 pub fn table(output: bool, operands: &[u32]) -> Node {
-    Node { kind: 1, output, delay: 1, latency: 0, operands: operands.to_vec() }
+    Node { kind: 1, output, delay: 1, operands: operands.to_vec(), ..input() }
 }
 
 /// What a made-up small sheet is drawn from: the greatest number of nodes, T, H and latency, and whether tables read many inputs.
@@ -214,13 +243,13 @@ fn small_node(random: &mut Random, own: u32, top: u32, size: &Size) -> Node {
     let (low, high) = if size.wide { (3, 6) } else if random.once_in(6) { (1, 6) } else { (1, 3) };
     let count = if kind == 0 || own == 0 { 0 } else { random.within(if kind == 1 { low } else { 0 }, high) };
     let reach = if random.once_in(2) { own } else { own.min(3) };
-    let operands = (0..count).map(|_| own - random.within(1, reach)).collect();
+    let operands: Vec<u32> = (0..count).map(|_| own - random.within(1, reach)).collect();
     match kind {
-        0 => Node { kind, output, delay: 0, latency: 0, operands },
-        1 => Node { kind, output, delay: if random.once_in(2) { 1 } else { random.within(1, top) }, latency: 0, operands },
+        0 => Node { output, ..input() },
+        1 => Node { delay: if random.once_in(2) { 1 } else { random.within(1, top) }, ..table(output, &operands) },
         _ => {
             let latency = if random.once_in(2) { 0 } else { random.within(0, size.latency) };
-            Node { kind, output, delay: random.within(0, top), latency, operands }
+            Node { kind, output, delay: random.within(0, top), latency, clock_to_q: any_q(random, latency, top), operands }
         }
     }
 }
@@ -253,6 +282,32 @@ pub fn small(random: &mut Random, size: &Size) -> Sheet {
     }
     let leaves = if size.wide || random.once_in(3) { 2 } else { random.within(2, 6) };
     Sheet { leaves, top, horizon: random.within(0, size.horizon), nodes, differences }
+}
+
+/// A legal small sheet of up to `most` nodes with many memories, which are boxes with a latency and mostly a q, and with tables and boxes that read
+/// them. T goes up to `top` and H up to `horizon`; with a small T q often decides in which step a reader is.
+pub fn memories(random: &mut Random, most: u32, top: u32, horizon: u32) -> Sheet {
+    let (top, n) = (random.within(1, top), random.within(2, most));
+    let nodes = (0..n)
+        .map(|own| {
+            let reach = if random.once_in(3) { own } else { own.min(3) };
+            let count = if own == 0 { 0 } else { random.within(1, 3) };
+            let operands: Vec<u32> = (0..count).map(|_| own - random.within(1, reach)).collect();
+            let output = random.once_in(3);
+            match random.within(0, 9) {
+                0..=3 => {
+                    let latency = if random.once_in(2) { 1 } else { random.within(1, 3) };
+                    let clock_to_q = if random.once_in(3) { any_q(random, latency, top) } else { random.within(1, top) };
+                    Node { kind: 2, output, delay: random.within(0, top), latency, clock_to_q, operands }
+                }
+                4 => Node { kind: 2, output, delay: random.within(0, top), operands, ..input() },
+                _ if count == 0 || random.once_in(8) => Node { output, ..input() },
+                _ => Node { delay: random.within(1, top), ..table(output, &operands) },
+            }
+        })
+        .collect();
+    let differences = (0..random.within(0, 6) / 2).map(|_| small_difference(random, n)).collect();
+    Sheet { leaves: random.within(2, 4), top, horizon: random.within(0, horizon), nodes, differences }
 }
 
 /// A legal small sheet whose differences lead down its ids one after another, so that labels settle late; T is 1, so that steps are many.
@@ -324,7 +379,10 @@ pub fn ring(random: &mut Random, most: u32, tables: bool) -> Sheet {
             match own {
                 _ if own < inputs => input(),
                 _ if tables && random.once_in(3) => Node { delay: random.within(1, top), ..table(random.once_in(2), &operands) },
-                _ => Node { kind: 2, output: false, delay: random.within(0, 1), latency: random.within(0, 8) / 8, operands },
+                _ => {
+                    let (delay, latency) = (random.within(0, 1), random.within(0, 8) / 8);
+                    Node { kind: 2, output: false, delay, latency, clock_to_q: any_q(random, latency, top), operands }
+                }
             }
         })
         .collect();
@@ -345,10 +403,12 @@ pub fn ring(random: &mut Random, most: u32, tables: bool) -> Sheet {
     Sheet { leaves: 3, top, horizon: random.within(10, 60), nodes, differences }
 }
 
-/// The greatest sheet with its boxes and differences changed.
+/// The greatest sheet with its boxes and differences changed. With a latency of 0 there is no q.
 pub fn variant(random: &mut Random, latency: u32, weight: impl Fn(u32) -> (u32, u32, i32)) -> Sheet {
     let mut sheet = greatest(random);
-    sheet.nodes.iter_mut().filter(|node| node.latency > 0).for_each(|node| node.latency = latency);
+    for node in sheet.nodes.iter_mut().filter(|node| node.latency > 0) {
+        (node.latency, node.clock_to_q) = (latency, clock_to_q(node.kind, latency, T.1).1);
+    }
     sheet.differences = (0..1024).map(weight).map(|(from, to, weight)| Difference { from, to, weight }).collect();
     sheet
 }
@@ -360,7 +420,7 @@ pub fn chain(slow: u32, far: u32) -> Sheet {
         .map(|own| match own {
             0 => input(),
             _ if own % 2 == 1 => table(true, &[own - 1; 6]),
-            _ => Node { kind: 2, output: false, delay: 0, latency: if own <= 2 * slow { 255 } else { 0 }, operands: vec![own - 1; 6] },
+            _ => Node { kind: 2, latency: if own <= 2 * slow { 255 } else { 0 }, operands: vec![own - 1; 6], ..input() },
         })
         .collect();
     let differences = (0..1024).map(|i| Difference { from: i % 256, to: i / 4, weight: -(far as i32) }).collect();
@@ -379,7 +439,8 @@ pub fn large(random: &mut Random, round: usize) -> Sheet {
             let operands = (0..count).map(|_| own - random.within(1, reach.min(own))).collect();
             let delay = if kind == 0 { 0 } else { random.within(1, top) };
             let latency = if kind == 2 && random.once_in(3) { random.within(0, 255) } else { 0 };
-            Node { kind, output: random.once_in(9), delay, latency, operands }
+            let clock_to_q = any_q(random, latency, top);
+            Node { kind, output: random.once_in(9), delay, latency, clock_to_q, operands }
         })
         .collect();
     let m = [0, 256, 1024, 1024][round / 4 % 4];

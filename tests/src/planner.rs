@@ -36,12 +36,11 @@ fn used(sheet: &Sheet, chosen: &[Vec<u32>]) -> Vec<bool> {
     }
 }
 
-/// The bytes of the plan with these labels.
-fn plan(sheet: &Sheet, cuts: &[Vec<Vec<u32>>], labels: &[Label]) -> Vec<u8> {
-    let chosen = chosen_cuts(sheet, cuts, labels);
-    let used = used(sheet, &chosen);
+/// The bytes of the plan with these labels, this latency and these chosen cuts.
+pub fn plan(sheet: &Sheet, labels: &[Label], latency: u32, chosen: &[Vec<u32>]) -> Vec<u8> {
+    let used = used(sheet, chosen);
     let mut bytes = Vec::new();
-    put(&mut bytes, labels::latency(sheet, labels));
+    put(&mut bytes, latency);
     for (v, node) in sheet.nodes.iter().enumerate() {
         let leaves: &[u32] = if used[v] && node.kind == 1 { &chosen[v] } else { &[] };
         for value in [labels[v].0, labels[v].1, u32::from(used[v]), leaves.len() as u32] {
@@ -57,7 +56,8 @@ pub fn planned(bytes: &[u8]) -> Result<Vec<u8>, Refusal> {
     let sheet = reader::read(bytes)?;
     let cuts = labels::fitting_cuts(&sheet);
     let labels = labels::least_over(&sheet, &cuts)?;
-    Ok(plan(&sheet, &cuts, &labels))
+    let chosen = chosen_cuts(&sheet, &cuts, &labels);
+    Ok(plan(&sheet, &labels, labels::latency(&sheet, &labels), &chosen))
 }
 
 /// What planning into a buffer of `room` bytes gives, of that plan or refusal: number, place and, where the number is 0, the plan.

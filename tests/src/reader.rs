@@ -1,5 +1,5 @@
 //! Reading a sheet as documents 01 and 02 say, or the number and place of the first of grounds 1 to 5.
-use crate::limits::{fields, Range, CODE, H, K, KIND, M, MARK, N, T};
+use crate::limits::{clock_to_q, fields, Range, CODE, H, K, KIND, M, MARK, N, T};
 
 #[derive(Clone, Debug, PartialEq)]
 pub struct Node {
@@ -7,6 +7,8 @@ pub struct Node {
     pub output: bool,
     pub delay: u32,
     pub latency: u32,
+    /// q, the level of its last step at which a box with a latency delivers; 0 for every other node.
+    pub clock_to_q: u32,
     pub operands: Vec<u32>,
 }
 
@@ -85,6 +87,7 @@ pub fn read(bytes: &[u8]) -> Result<Sheet, Refusal> {
         let fields = fields(kind, top);
         let delay = source.ranged(fields.delay)?;
         let latency = source.ranged(fields.latency)?;
+        let clock_to_q = source.ranged(clock_to_q(kind, latency, top))?;
         let count = source.ranged(fields.operands)?;
         let mut operands = Vec::new();
         for _ in 0..count {
@@ -94,7 +97,7 @@ pub fn read(bytes: &[u8]) -> Result<Sheet, Refusal> {
             }
             operands.push(id);
         }
-        nodes.push(Node { kind, output, delay, latency, operands });
+        nodes.push(Node { kind, output, delay, latency, clock_to_q, operands });
     }
     let mut differences = Vec::new();
     for _ in 0..m {

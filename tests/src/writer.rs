@@ -1,5 +1,5 @@
 //! Writing a sheet as documents 01 and 02 say, from records whose fields may have any value, or the number and place of the refusal.
-use crate::limits::{fields, Range, H, K, KIND, M, MARK, N, T, W};
+use crate::limits::{clock_to_q, fields, Range, H, K, KIND, M, MARK, N, T, W};
 use crate::made::spelled;
 use crate::reader::{self, Difference, Refusal, Sheet};
 
@@ -10,12 +10,14 @@ pub struct Node {
     pub output: u32,
     pub delay: u32,
     pub latency: u32,
+    pub clock_to_q: u32,
     pub operands: Vec<u32>,
 }
 
 impl From<&reader::Node> for Node {
     fn from(node: &reader::Node) -> Node {
-        Node { kind: node.kind, output: u32::from(node.output), delay: node.delay, latency: node.latency, operands: node.operands.clone() }
+        let reader::Node { kind, output, delay, latency, clock_to_q, ref operands } = *node;
+        Node { kind, output: u32::from(output), delay, latency, clock_to_q, operands: operands.clone() }
     }
 }
 
@@ -91,6 +93,7 @@ pub fn numbers(records: &Records) -> Result<Vec<u32>, Refusal> {
         let fields = fields(node.kind, records.top);
         numbers.ranged(node.delay, fields.delay)?;
         numbers.ranged(node.latency, fields.latency)?;
+        numbers.ranged(node.clock_to_q, clock_to_q(node.kind, node.latency, records.top))?;
         numbers.count(node.operands.len(), fields.operands)?;
         for &id in &node.operands {
             numbers.operand(id, own)?;
@@ -114,8 +117,8 @@ pub fn outcome(records: &Records, room: usize) -> (u64, u64, Option<Vec<u8>>) {
     }
 }
 
-/// Records as the library's call takes them: five numbers for a node (kind, mark, d, lat, the end of its operands) and three for a difference
-/// (u, v, the bits of w).
+/// Records as the library's call takes them: six numbers for a node (kind, mark, d, lat, the end of its operands, q) and three for a difference (u,
+/// v, the bits of w).
 #[derive(Clone, Debug, PartialEq)]
 pub struct Rows {
     pub leaves: u32,
@@ -131,7 +134,7 @@ impl From<&Records> for Rows {
         let (mut nodes, mut operands) = (Vec::new(), Vec::new());
         for node in &records.nodes {
             operands.extend(&node.operands);
-            nodes.extend([node.kind, node.output, node.delay, node.latency, operands.len() as u32]);
+            nodes.extend([node.kind, node.output, node.delay, node.latency, operands.len() as u32, node.clock_to_q]);
         }
         let differences = records.differences.iter().flat_map(|d| [d.from, d.to, d.weight as u32]).collect();
         Rows { leaves: records.leaves, top: records.top, horizon: records.horizon, nodes, operands, differences }
@@ -143,11 +146,11 @@ impl Rows {
     /// none where that end does not come after the start. A row that is not complete is none.
     pub fn records(&self) -> Records {
         let mut start = 0;
-        let nodes = self.nodes.chunks_exact(5).map(|row| {
+        let nodes = self.nodes.chunks_exact(6).map(|row| {
             let end = row[4] as usize;
             let operands = (start..end).map_while(|i| self.operands.get(i).copied()).collect();
             start = end;
-            Node { kind: row[0], output: row[1], delay: row[2], latency: row[3], operands }
+            Node { kind: row[0], output: row[1], delay: row[2], latency: row[3], clock_to_q: row[5], operands }
         });
         let nodes = nodes.collect();
         let differences = self.differences.chunks_exact(3).map(|row| Difference { from: row[0], to: row[1], weight: row[2] as i32 }).collect();

@@ -29,7 +29,7 @@ fn graph(random: &mut Random, n: u32) -> Sheet {
             let reach = random.within(2, 6).min(own.max(1));
             let count = if kind == 0 { 0 } else { random.within(1, 4) };
             let operands = (0..count).map(|_| own - random.within(1, reach)).collect();
-            Node { kind, output: false, delay: u32::from(kind == 1), latency: 0, operands }
+            Node { kind, output: false, delay: u32::from(kind == 1), latency: 0, clock_to_q: 0, operands }
         })
         .collect();
     Sheet { leaves: 2, top: 1, horizon: 0, nodes, differences: Vec::new() }

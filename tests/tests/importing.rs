@@ -62,8 +62,8 @@ fn nodes(words: &str, delay: u32) -> Vec<Node> {
         let output = kind.ends_with('*');
         match kind.trim_end_matches('*') {
             "i" => Node { output, ..input() },
-            "t" => Node { kind: 1, output, delay, latency: 0, operands },
-            "b" => Node { kind: 2, output, delay: 0, latency: 1, operands },
+            "t" => Node { kind: 1, output, delay, operands, ..input() },
+            "b" => Node { kind: 2, output, latency: 1, operands, ..input() },
             other => panic!("{other} is no kind"),
         }
     };
@@ -116,16 +116,16 @@ fn a_model_and_its_bytes() {
     let text = b"# a lift\n.model hall\n.inputs a b\n.outputs q x\n.names a b x\n11 1\n.latch x q 0\n.names q one o\n-- 1\n.end\n";
     refused_for(&CALLER, text, 10, 8);
     let text = b"# a lift\n.model hall\n.inputs a b\n.outputs q x\n.names one\n1\n.names a b x\n11 1\n.latch x q 0\n.names q one o\n-- 1\n.end\n";
-    // K, T, H, n, m; then kind, mark, d, lat, count and operands of a, b, one, x, q, o.
+    // K, T, H, n, m; then kind, mark, d, lat, q, count and operands of a, b, one, x, q, o.
     let header = [3, 2, 4, 6, 0];
-    let inputs = [0; 15];
-    let others = [1, 1, 1, 0, 2, 0, 1, 2, 1, 0, 1, 1, 3, 1, 0, 1, 0, 2, 4, 2];
+    let inputs = [0; 18];
+    let others = [1, 1, 1, 0, 0, 2, 0, 1, 2, 1, 0, 1, 0, 1, 3, 1, 0, 1, 0, 0, 2, 4, 2];
     accepted_for(&CALLER, text, &[&header[..], &inputs, &others].concat());
     // H of three bytes, d = 64, n of two bytes.
     let caller = Caller { leaves: 6, top: 64, horizon: 65_535, table: 64_000, level: 1_000 };
     let names: String = (0..255).map(|i| format!(" n{i}")).collect();
     let text = format!(".model m\n.inputs{names}\n.names n0 n254 z\n.end");
-    let expected = [&[6, 64, 0xff, 0xff, 0x03, 0x80, 0x02, 0][..], &[0; 5 * 255], &[1, 0, 64, 0, 2, 0, 0xfe, 0x01]].concat();
+    let expected = [&[6, 64, 0xff, 0xff, 0x03, 0x80, 0x02, 0][..], &[0; 6 * 255], &[1, 0, 64, 0, 0, 2, 0, 0xfe, 0x01]].concat();
     accepted_for(&caller, text.as_bytes(), &expected);
 }
 
@@ -850,7 +850,7 @@ fn the_room() {
     }
     // The longest that a model has: tables of six operands, the last one that they may read, and H of three bytes.
     let caller = Caller { leaves: 6, top: 64, horizon: H.1, table: 64, level: 1 };
-    let table = |own: u32| Node { kind: 1, output: true, delay: 64, latency: 0, operands: vec![own - 1; 6] };
+    let table = |own: u32| Node { kind: 1, output: true, delay: 64, operands: vec![own - 1; 6], ..input() };
     let all = (0..N.1).map(|own| if own == 0 { input() } else { table(own) }).collect();
     let sheet = Sheet { leaves: 6, top: 64, horizon: H.1, nodes: all, differences: Vec::new() };
     let expected = spelled(&numbers(&sheet));
@@ -1259,7 +1259,7 @@ fn hostile_texts() {
     text += ".end\n";
     let all = (0..N.1).map(|own| match own {
         0 => input(),
-        _ => Node { kind: 1, output: own == 255, delay: 1, latency: 0, operands: (1..=6).map(|back| own.saturating_sub(back)).collect() },
+        _ => Node { kind: 1, output: own == 255, delay: 1, operands: (1..=6).map(|back| own.saturating_sub(back)).collect(), ..input() },
     });
     let expected = sheet_of(&CALLER, all.collect());
     text += &"#".repeat(TEXT - text.len());

@@ -17,7 +17,7 @@ use std::process::{Command, Output, Stdio};
 const SEED: u64 = 20260109;
 
 /// A room that no sheet exceeds.
-const AMPLE: usize = 12_000;
+const AMPLE: usize = 13_000;
 
 /// The program stops reading after so many bytes: one more than a text may have.
 const STOP: usize = TEXT + 1;
@@ -57,13 +57,13 @@ fn compare(text: &[u8], caller: &Caller) -> u64 {
 
 #[test]
 fn a_model_and_its_bytes() {
-    // K, T, H, n, m; then kind, mark, d, lat, count and operands of a, b, x, q.
-    let sheet = [&[3, 2, 4, 4, 0][..], &[0; 10], &[1, 0, 1, 0, 2, 0, 1, 2, 1, 0, 1, 1, 2]].concat();
+    // K, T, H, n, m; then kind, mark, d, lat, q, count and operands of a, b, x, q.
+    let sheet = [&[3, 2, 4, 4, 0][..], &[0; 12], &[1, 0, 1, 0, 0, 2, 0, 1, 2, 1, 0, 1, 0, 1, 2]].concat();
     let output = run(MODEL, &["3", "2", "4", "1", "1"], MODEL.len());
     assert!(output.stdout == sheet && output.stderr.is_empty(), "{output:?}");
     // d = 64; H of three bytes.
     let output = run(MODEL, &["6", "64", "65535", "4294967295", "67108864"], MODEL.len());
-    let sheet = [&[6, 64, 0xff, 0xff, 3, 4, 0][..], &[0; 10], &[1, 0, 64, 0, 2, 0, 1, 2, 1, 0, 1, 1, 2]].concat();
+    let sheet = [&[6, 64, 0xff, 0xff, 3, 4, 0][..], &[0; 12], &[1, 0, 64, 0, 0, 2, 0, 1, 2, 1, 0, 1, 0, 1, 2]].concat();
     assert!(output.stdout == sheet && output.stderr.is_empty(), "{output:?}");
 }
 

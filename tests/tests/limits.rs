@@ -4,7 +4,7 @@
 #![cfg(planner)]
 use maps_tests::buffer::{after, lent};
 use maps_tests::library::{plan, read, write, Answer, Tables};
-use maps_tests::limits::{fields, Range, CODE, H, K, KIND, M, MARK, N, NUMBER, SIZES, T};
+use maps_tests::limits::{clock_to_q, fields, Range, CODE, H, K, KIND, M, MARK, N, NUMBER, SIZES, T};
 use maps_tests::made::{input, numbers, respelled, spelled, table, weight};
 use maps_tests::reader::{self, Difference, Node, Sheet};
 use maps_tests::writer::{self, Records, Rows};
@@ -36,8 +36,8 @@ fn records(numbers: &[u32]) -> Records {
     let mut rest = numbers.iter().copied();
     let [leaves, top, horizon, n, m] = std::array::from_fn(|_| rest.next().unwrap());
     let nodes = (0..n.min(MANY)).map(|_| {
-        let [kind, output, delay, latency, count] = std::array::from_fn(|_| rest.next().unwrap_or(0));
-        writer::Node { kind, output, delay, latency, operands: rest.by_ref().take(count as usize).collect() }
+        let [kind, output, delay, latency, clock_to_q, count] = std::array::from_fn(|_| rest.next().unwrap_or(0));
+        writer::Node { kind, output, delay, latency, clock_to_q, operands: rest.by_ref().take(count as usize).collect() }
     });
     let nodes = nodes.collect();
     let differences = (0..m.min(MANY)).map(|_| {
@@ -50,9 +50,9 @@ fn records(numbers: &[u32]) -> Records {
 
 /// Writing the sheet with these numbers gives this answer, and these bytes at the front of the buffer.
 fn written(name: &str, numbers: &[u32], number: u64, place: u64, bytes: &[u8]) {
-    let (answer, buffer) = lent(12_000, |buffer| write(&Rows::from(&records(numbers)), buffer));
+    let (answer, buffer) = lent(13_000, |buffer| write(&Rows::from(&records(numbers)), buffer));
     assert_eq!(answer, Answer { number, place }, "writing: {name}");
-    assert!(buffer == after(bytes, 12_000), "bytes written: {name}");
+    assert!(buffer == after(bytes, 13_000), "bytes written: {name}");
 }
 
 /// Where the number at an index of a sheet has its first byte.
@@ -133,7 +133,7 @@ fn header() {
 
 /// The number of values in a sheet's header, and in a node before its operands.
 const HEADER: usize = 5;
-const HEAD: usize = 5;
+const HEAD: usize = 6;
 
 /// A sheet of 8 inputs below one node, with differences after it, and the index of the node's kind.
 fn with_node(top: u32, node: Node) -> (Vec<u32>, usize) {
@@ -146,7 +146,8 @@ fn with_node(top: u32, node: Node) -> (Vec<u32>, usize) {
 /// A node of a kind at the least of its ranges.
 fn least_of(kind: u32, top: u32) -> Node {
     let fields = fields(kind, top);
-    Node { kind, output: false, delay: fields.delay.0, latency: fields.latency.0, operands: (0..fields.operands.0).collect() }
+    let clock_to_q = clock_to_q(kind, fields.latency.0, top).0;
+    Node { kind, output: false, delay: fields.delay.0, latency: fields.latency.0, clock_to_q, operands: (0..fields.operands.0).collect() }
 }
 
 #[test]
@@ -175,12 +176,42 @@ fn fields_of_each_kind() {
             both_ends(&name("d"), fields.delay, index + 2, |delay| with_node(top, Node { delay, ..node() }).0);
             both_ends(&name("lat"), fields.latency, index + 3, |latency| with_node(top, Node { latency, ..node() }).0);
             // As many operands as the count says, up to one more than the most.
-            both_ends(&name("operands"), fields.operands, index + 4, |count| {
+            both_ends(&name("operands"), fields.operands, index + 5, |count| {
                 let (mut all, _) = with_node(top, Node { operands: vec![7; count.min(7) as usize], ..node() });
-                all[index + 4] = count;
+                all[index + 5] = count;
                 all
             });
         }
+    }
+}
+
+#[test]
+fn q_of_each_kind() {
+    let index = HEADER + 8 * HEAD + 4;
+    for kind in 0..=KIND.1 {
+        for top in [T.0, T.0 + 1, 7, T.1 - 1, T.1] {
+            for latency in inner(fields(kind, top).latency).into_iter().chain([1]).filter(|&lat| lat <= fields(kind, top).latency.1) {
+                let range = clock_to_q(kind, latency, top);
+                assert_eq!(range, (0, if kind == 2 && latency > 0 { top } else { 0 }));
+                let name = format!("q of kind {kind} with lat = {latency} under T = {top}");
+                both_ends(&name, range, index, |q| with_node(top, Node { latency, clock_to_q: q, ..least_of(kind, top) }).0);
+            }
+        }
+    }
+    // Whatever d, mark and operands of the box are, and with a lat of two bytes before it.
+    for latency in [1, 127, 128, 255] {
+        let slow = Node { output: true, delay: T.1, latency, operands: vec![7; 6], ..least_of(2, T.1) };
+        both_ends("q of a box", (0, T.1), index, |q| with_node(T.1, Node { clock_to_q: q, ..slow.clone() }).0);
+        // A lat that is out of its range, and the mark and d before it, are refused before q.
+        for (offset, value) in [(1, 2), (2, T.1 + 1), (3, 256)] {
+            let (mut all, kind) = with_node(T.1, Node { clock_to_q: T.1 + 1, ..slow.clone() });
+            all[kind + offset] = value;
+            outside("a number before a wrong q", &all, kind + offset, 3);
+        }
+        // The count and the operands after it are refused after q.
+        let (mut all, kind) = with_node(T.1, Node { clock_to_q: T.1 + 1, ..slow });
+        all[kind + 6] = 8;
+        outside("q before a wrong operand", &all, index, 3);
     }
 }
 
@@ -208,9 +239,9 @@ fn operand_ids() {
         }
     }
     // Node 0 reads nothing.
-    let first = |kind| [K.0, 1, H.0, 1, 0, kind, 0, 1, 0, 1, 0];
-    outside("operand of node 0", &first(1), 10, 4);
-    outside("operand of node 0", &first(2), 10, 4);
+    let first = |kind| [K.0, 1, H.0, 1, 0, kind, 0, 1, 0, 0, 1, 0];
+    outside("operand of node 0", &first(1), 11, 4);
+    outside("operand of node 0", &first(2), 11, 4);
 }
 
 #[test]
@@ -271,7 +302,7 @@ fn spelling() {
     let mut sheet = plain(2, 1);
     sheet.nodes.extend([table(true, &[0, 1]), Node { operands: vec![2, 0], ..least_of(2, 1) }]);
     let all = numbers(&sheet);
-    let operands = [20, 21, 27, 28];
+    let operands = [23, 24, 31, 32];
     assert_eq!(operands.map(|index| all[index]), [0, 1, 2, 0]);
     let (horizon, code) = (2, all.len() - 1);
     taken("the whole sheet", &spelled(&all));

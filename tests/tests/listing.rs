@@ -3,7 +3,7 @@
 #![cfg(planner)]
 use maps_tests::library::plan;
 use maps_tests::limits::{H, W};
-use maps_tests::made::{self, chain, greatest, input, long, numbers, respelled, small, spelled, stairs, table, Size};
+use maps_tests::made::{self, any_q, chain, greatest, input, long, memories, numbers, respelled, small, spelled, stairs, table, Size};
 use maps_tests::plan::{refusal_line, Plan};
 use maps_tests::planner::planned;
 use maps_tests::programs::{compare_lines, in_pieces, program, STOP};
@@ -61,12 +61,13 @@ fn small_sheets() {
     println!("seed {SEED}");
     let mut random = Random::new(SEED);
     let mut met = [0; 9];
-    for round in 0..320 {
-        let sheet = match round % 4 {
+    for round in 0..400 {
+        let sheet = match round % 5 {
             0 => stairs(&mut random),
             1 => small(&mut random, &Size { nodes: 12, top: 64, horizon: H.1, latency: 255, wide: false }),
             2 => long(&mut random),
-            _ => small(&mut random, &Size { nodes: 9, top: 3, horizon: 40, latency: 30, wide: round % 8 == 3 }),
+            3 => memories(&mut random, 11, 6, 24),
+            _ => small(&mut random, &Size { nodes: 9, top: 3, horizon: 40, latency: 30, wide: round % 2 == 0 }),
         };
         met[compare_small(&spelled(&numbers(&sheet))) as usize] += 1;
     }
@@ -88,7 +89,8 @@ fn spread(random: &mut Random, n: u32) -> Sheet {
             _ if own < 6.min(n) || random.once_in(9) => Node { output: random.once_in(4), ..input() },
             _ if random.once_in(7) => {
                 let operands = (0..random.within(0, 6)).map(|_| own - random.within(1, own)).collect();
-                Node { kind: 2, output: random.once_in(4), delay: random.within(0, 64), latency: random.within(0, 255), operands }
+                let (output, delay, latency) = (random.once_in(4), random.within(0, 64), random.within(0, 255));
+                Node { kind: 2, output, delay, latency, clock_to_q: any_q(random, latency, 64), operands }
             }
             _ => {
                 let operands: Vec<u32> = (0..random.within(1, 6)).map(|_| own - random.within(1, own.min(9))).collect();

@@ -97,7 +97,7 @@ fn above(inputs: usize, nodes: &[Node]) -> Vec<Node> {
 
 /// A box that reads these nodes.
 fn memory(output: bool, operands: &[u32]) -> Node {
-    Node { kind: 2, output, delay: 0, latency: 1, operands: operands.to_vec() }
+    Node { kind: 2, output, latency: 1, operands: operands.to_vec(), ..input() }
 }
 
 /// Compares with lines that are written out.
@@ -357,21 +357,23 @@ fn sheets_at_the_limits() {
 #[test]
 fn refused_sheets() {
     // K, T, H, n, m; an input; a table that reads it.
-    let whole = [2, 1, 0, 2, 0, 0, 0, 0, 0, 0, 1, 1, 1, 0, 1, 0];
+    let whole = [2, 1, 0, 2, 0, 0, 0, 0, 0, 0, 0, 1, 1, 1, 0, 0, 1, 0];
     compare(&whole, "node 1: 1 leaves; operands looked at: 1 before, 1 now\n");
     compare(&[], "refused 1 0\n");
     (0..whole.len()).for_each(|length| compare(&whole[..length], &format!("refused 1 {length}\n")));
     let with = |index: usize, spelling: &[u8]| [&whole[..index], spelling, &whole[index + 1..]].concat();
     compare(&with(2, &[0x80, 0]), "refused 2 2\n");
     compare(&with(2, &[0x80, 0x80, 0]), "refused 2 2\n");
-    compare(&with(15, &[0x80, 0x80, 0x80]), "refused 2 15\n");
+    compare(&with(17, &[0x80, 0x80, 0x80]), "refused 2 17\n");
     compare(&with(0, &[1]), "refused 3 0\n");
     compare(&with(0, &[7]), "refused 3 0\n");
-    compare(&with(10, &[3]), "refused 3 10\n");
-    compare(&with(11, &[2]), "refused 3 11\n");
-    compare(&with(14, &[0]), "refused 3 14\n");
-    compare(&with(15, &[1]), "refused 4 15\n");
-    compare(&with(15, &[0, 0]), "refused 5 16\n");
+    compare(&with(11, &[3]), "refused 3 11\n");
+    compare(&with(12, &[2]), "refused 3 12\n");
+    compare(&with(9, &[1]), "refused 3 9\n");
+    compare(&with(15, &[1]), "refused 3 15\n");
+    compare(&with(16, &[0]), "refused 3 16\n");
+    compare(&with(17, &[1]), "refused 4 17\n");
+    compare(&with(17, &[0, 0]), "refused 5 18\n");
     // No more lines than this one, also where an output stands before the fault.
     let two = spelled(&numbers(&sheet(2, above(1, &[table(true, &[0]), table(true, &[1])]))));
     let place = two.len() - 1;

@@ -6,7 +6,7 @@ use maps_tests::header::defined;
 use maps_tests::labels::{fitting_cuts, least, legal, Label};
 use maps_tests::library::{plan, Answer};
 use maps_tests::limits::{fields, width, H, N, T, W};
-use maps_tests::made::{self, chain, damaged, greatest, input, long, numbers, ring, small, spelled, stairs, table, variant, Size};
+use maps_tests::made::{self, chain, damaged, greatest, input, long, memories, numbers, respelled, ring, small, spelled, stairs, table, variant, Size};
 use maps_tests::plan::{refusal_line, Plan};
 use maps_tests::planner::{self, outcome};
 use maps_tests::random::Random;
@@ -139,7 +139,7 @@ fn sheets_with_long_paths() {
 #[test]
 fn every_step() {
     // Two inputs w steps apart: within w, and not within less.
-    let apart = |horizon: u32, w: u32| spelled(&[2, 1, horizon, 2, 1, 0, 0, 0, 0, 0, 0, 0, 0, 0, 0, 0, 1, 2 * w]);
+    let apart = |horizon: u32, w: u32| spelled(&[2, 1, horizon, 2, 1, 0, 0, 0, 0, 0, 0, 0, 0, 0, 0, 0, 0, 0, 1, 2 * w]);
     let mut of_three = 0;
     for w in 0..=W {
         let plan = spelled(&[w, 0, 0, 0, 0, w, 0, 0, 0]);
@@ -156,7 +156,7 @@ fn every_step() {
 
 #[test]
 fn damaged_sheets() {
-    let met = compare_all(SEED + 1, 30000, |random, round| {
+    let met = compare_all(SEED + 1, 36000, |random, round| {
         let whole = small(random, &Size { nodes: 7, top: 3, horizon: 6, latency: 3, wide: round % 3 == 0 });
         damaged(random, &whole)
     });
@@ -165,8 +165,8 @@ fn damaged_sheets() {
 
 /// A few small bytes behind a header whose values are mostly in range, with some bytes of any value.
 fn mostly_small(random: &mut Random) -> Vec<u8> {
-    let length = random.within(0, 24);
-    let mut bytes: Vec<u8> = (0..length).map(|_| if random.once_in(16) { random.next() as u8 } else { random.within(0, 2) as u8 / 2 }).collect();
+    let length = random.within(0, 27);
+    let mut bytes: Vec<u8> = (0..length).map(|_| if random.once_in(16) { random.next() as u8 } else { random.within(0, 3) as u8 / 3 }).collect();
     for (byte, value) in bytes.iter_mut().zip([random.within(2, 6), 2, 4, random.within(1, 3), random.within(0, 1)]) {
         if !random.once_in(16) {
             *byte = value as u8;
@@ -206,14 +206,15 @@ fn every_labelling(n: usize, choice: &[Label], each: &mut impl FnMut(&[Label])) 
     }
 }
 
-#[test]
-fn labels_of_tiny_sheets_are_least_by_definition() {
-    println!("seed {}", SEED + 3);
-    let mut random = Random::new(SEED + 3);
+/// Holds the library to the definition of least labels on tiny sheets, over every labelling up to H + 2. Counts the numbers met, and how many sheets
+/// are refused 7 but legal within H + 2.
+fn compare_by_definition(seed: u64, rounds: u32, mut sheet: impl FnMut(&mut Random, u32) -> Sheet) -> ([u32; 9], u32) {
+    println!("seed {seed}");
+    let mut random = Random::new(seed);
     let mut met = [0; 9];
     let mut later = 0;
-    for round in 0..6000 {
-        let sheet = small(&mut random, &Size { nodes: 4, top: 2, horizon: 2, latency: 2, wide: round % 3 == 0 });
+    for round in 0..rounds {
+        let sheet = sheet(&mut random, round);
         let bytes = spelled(&numbers(&sheet));
         let (answer, buffer) = planned(&bytes, 100);
         let cuts = fitting_cuts(&sheet);
@@ -244,7 +245,29 @@ fn labels_of_tiny_sheets_are_least_by_definition() {
         }
     }
     println!("sheets by number: {met:?}, refused 7 but legal within H + 2: {later}");
+    (met, later)
+}
+
+#[test]
+fn labels_of_tiny_sheets_are_least_by_definition() {
+    let (met, later) = compare_by_definition(SEED + 3, 6000, |random, round| {
+        small(random, &Size { nodes: 4, top: 2, horizon: 2, latency: 2, wide: round % 3 == 0 })
+    });
     assert!(met[0] > 1000 && met[6] > 50 && met[7] > 1000 && later > 200);
+}
+
+#[test]
+fn labels_of_tiny_sheets_with_memories_are_least_by_definition() {
+    // Most of them have a memory with a q that another node reads.
+    let mut read = 0;
+    let (met, later) = compare_by_definition(SEED + 11, 4000, |random, _| {
+        let sheet = memories(random, 4, 2, 3);
+        let delivers = |u: &u32| sheet.nodes[*u as usize].clock_to_q > 0;
+        read += u32::from(sheet.nodes.iter().any(|node| node.operands.iter().any(delivers)));
+        sheet
+    });
+    println!("sheets with a reader of a memory with a q: {read}");
+    assert!(met[0] > 1000 && met[7] > 1000 && later > 500 && read > 1500, "{met:?}, {later}, {read}");
 }
 
 /// The plan of a large sheet within a horizon, if it is accepted; otherwise it is refused 7.
@@ -428,8 +451,8 @@ fn the_cases_of_document_01() {
     let refused = "refused 7 0\n";
     let whole = "latency 1\n0 0 0 used\n1 0 0 used\n2 0 0 used\n3 0 1 used 0 1\n4 0 1 idle\n5 1 1 used 2 3\n";
     let spelling: Vec<u8> = [
-        "030204060100000000000000000000000000000001000100020001010001000203020101010002040300",
-        "0502",
+        "0302040601000000000000000000000000000000000000010001000002000101000100000203020101",
+        "010000020403000502",
     ]
     .concat()
     .as_bytes()
@@ -437,7 +460,7 @@ fn the_cases_of_document_01() {
     .map(|pair| u8::from_str_radix(std::str::from_utf8(pair).unwrap(), 16).unwrap())
     .collect();
     assert_eq!(spelling, hall(3, 2, 4, &[(0, 5, 1)]));
-    assert_eq!(spelling.len(), 44);
+    assert_eq!(spelling.len(), 50);
     assert_eq!(planned(&spelling, 29), (
         Answer { number: 0, place: 29 },
         vec![1, 0, 0, 1, 0, 0, 0, 1, 0, 0, 0, 1, 0, 0, 1, 1, 2, 0, 1, 0, 1, 0, 0, 1, 1, 1, 2, 2, 3],
@@ -459,12 +482,12 @@ fn the_cases_of_document_01() {
     let reconvergent = vec![input(), one(false), one(false), one(false), table(true, &[1, 2, 3])];
     assert!(listing(&spell(2, 1, 0, reconvergent)).ends_with("4 0 1 used 0\n"));
     assert_eq!(listing(&spell(2, 1, 0, vec![input(), input(), input(), table(true, &[0, 1, 2])])), "refused 6 3\n");
-    let slow = |latency| Node { kind: 2, output: true, delay: 2, latency, operands: vec![0] };
+    let slow = |latency| Node { kind: 2, output: true, delay: 2, latency, clock_to_q: 0, operands: vec![0] };
     assert_eq!(listing(&spell(2, 2, 3, vec![input(), slow(3)])), "latency 3\n0 0 0 used\n1 0 2 used\n");
     assert_eq!(listing(&spell(2, 2, 2, vec![input(), slow(3)])), refused);
     assert!(listing(&spell(2, 2, 4, vec![input(), slow(0), table(true, &[1])])).ends_with("2 1 1 used 1\n"));
-    let second = Node { kind: 2, output: true, delay: 2, latency: 0, operands: vec![1] };
-    let first = Node { kind: 2, output: false, delay: 1, latency: 0, operands: vec![0] };
+    let second = Node { kind: 2, output: true, delay: 2, operands: vec![1], ..input() };
+    let first = Node { kind: 2, delay: 1, operands: vec![0], ..input() };
     assert!(listing(&spell(2, 2, 4, vec![input(), first, second])).ends_with("2 1 2 used\n"), "no surplus is carried over");
 
     assert_eq!(listing(&[0xff, 0x7f]), "refused 3 0\n");
@@ -494,6 +517,147 @@ fn the_cases_of_document_02() {
     }
     assert_eq!(listing(&hall(3, 2, 65_535, &[(0, 5, 1), (5, 0, -65_535)])), whole(1));
     assert_eq!(listing(&hall(3, 2, 65_536, &[(0, 5, 1)])), "refused 3 2\n");
-    assert_eq!(listing(&hall(3, 2, 65_535, &[(0, 5, 65_536)])), "refused 3 45\n");
-    assert_eq!(listing(&hall(3, 2, 4, &[(0, 5, -65_536)])), "refused 3 43\n");
+    assert_eq!(listing(&hall(3, 2, 65_535, &[(0, 5, 65_536)])), "refused 3 51\n");
+    assert_eq!(listing(&hall(3, 2, 4, &[(0, 5, -65_536)])), "refused 3 49\n");
+}
+
+/// K = 2, T = 4, H = 9: an input, a box with d = 0 on it that has this lat and q, and these nodes.
+fn memory(latency: u32, clock_to_q: u32, nodes: &[Node]) -> Vec<u8> {
+    let first = [input(), Node { kind: 2, latency, clock_to_q, operands: vec![0], ..input() }];
+    spelled(&numbers(&Sheet { leaves: 2, top: 4, horizon: 9, nodes: [&first, nodes].concat(), differences: Vec::new() }))
+}
+
+/// A node that reads these.
+fn reader_of(kind: u32, output: bool, delay: u32, operands: &[u32]) -> Node {
+    Node { kind, output, delay, operands: operands.to_vec(), ..input() }
+}
+
+#[test]
+fn memories_that_deliver_after_the_clock_edge() {
+    // U5: the box with lat = 2 and q = 3 is (0, 0) and ready at (2, 3).
+    let read_by = |nodes: &[Node]| listing(&memory(2, 3, nodes));
+    assert_eq!(read_by(&[]), "latency 2\n0 0 0 used\n1 0 0 used\n");
+    let table = |delay| reader_of(1, true, delay, &[1]);
+    assert_eq!(read_by(&[table(1)]), "latency 2\n0 0 0 used\n1 0 0 used\n2 2 4 used 1\n");
+    for delay in 2..=4 {
+        assert_eq!(read_by(&[table(delay)]), format!("latency 3\n0 0 0 used\n1 0 0 used\n2 3 {delay} used 1\n"));
+    }
+    // A box that reads it likewise, and is there at level q also with d = 0.
+    for (delay, label) in [(0, "2 3"), (1, "2 4"), (2, "3 2"), (3, "3 3"), (4, "3 4")] {
+        let found = read_by(&[reader_of(2, false, delay, &[1])]);
+        assert_eq!(found, format!("latency {}\n0 0 0 used\n1 0 0 used\n2 {label} used\n", &label[..1]));
+    }
+    // A table with d = 1 that hides one with d = 2: of the hidden one, which is (3, 2), its step alone is waited for.
+    let hiding = read_by(&[reader_of(1, false, 2, &[1]), reader_of(1, true, 1, &[2])]);
+    assert_eq!(hiding, "latency 3\n0 0 0 used\n1 0 0 used\n2 3 2 idle\n3 3 1 used 1\n");
+    // A memory that reads the memory: (2, 3), ready at (4, 0) and read there at level 1, and not at level 4.
+    let second = Node { latency: 2, ..reader_of(2, false, 0, &[1]) };
+    assert_eq!(read_by(&[second, reader_of(1, true, 1, &[2])]), "latency 4\n0 0 0 used\n1 0 0 used\n2 2 3 used\n3 4 1 used 2\n");
+}
+
+#[test]
+fn every_q_below_every_delay() {
+    // A reader with delay d is at (2, q + d), or at (3, d) where that is past T.
+    for top in [1, 2, 3, 4, 7, 63, 64] {
+        for (q, delay) in (0..=top).flat_map(|q| (0..=top).map(move |delay| (q, delay))) {
+            let (step, level) = if q + delay <= top { (2, q + delay) } else { (3, delay) };
+            let memory = Node { kind: 2, latency: 2, clock_to_q: q, operands: vec![0], ..input() };
+            for kind in [2, 1].into_iter().filter(|&kind| delay > 0 || kind == 2) {
+                let nodes = vec![input(), memory.clone(), reader_of(kind, true, delay, &[1])];
+                let sheet = Sheet { leaves: 2, top, horizon: 3, nodes, differences: Vec::new() };
+                let leaves = if kind == 1 { " 1" } else { "" };
+                let expected = format!("latency {step}\n0 0 0 used\n1 0 0 used\n2 {step} {level} used{leaves}\n");
+                assert_eq!(listing(&spelled(&numbers(&sheet))), expected, "T = {top}, q = {q}, d = {delay}");
+                // H = 2 is enough unless the reader is in step 3.
+                let short = listing(&spelled(&numbers(&Sheet { horizon: 2, ..sheet })));
+                assert_eq!(short, if step == 2 { expected } else { "refused 7 0\n".to_string() }, "T = {top}, q = {q}, d = {delay}");
+            }
+        }
+    }
+}
+
+#[test]
+fn q_enters_no_step() {
+    // Differences, latency and horizon use steps: the memory is ready in step 2 whatever its q is.
+    let sheet = |clock_to_q: u32, horizon: u32, differences: &[(u32, u32, i32)]| {
+        let nodes = vec![input(), Node { kind: 2, latency: 2, clock_to_q, operands: vec![0], ..input() }, input()];
+        let differences = differences.iter().map(|&(from, to, weight)| Difference { from, to, weight }).collect();
+        spelled(&numbers(&Sheet { leaves: 2, top: 4, horizon, nodes, differences }))
+    };
+    for q in 0..=4 {
+        assert_eq!(listing(&sheet(q, 2, &[])), "latency 2\n0 0 0 used\n1 0 0 used\n2 0 0 idle\n");
+        assert_eq!(listing(&sheet(q, 1, &[])), "refused 7 0\n");
+        // A difference looks at the label of the memory and not at its ready label, and moves no level.
+        assert_eq!(listing(&sheet(q, 3, &[(1, 2, 1)])), "latency 2\n0 0 0 used\n1 0 0 used\n2 1 0 idle\n");
+        assert_eq!(listing(&sheet(q, 3, &[(0, 1, 1)])), "latency 3\n0 0 0 used\n1 1 0 used\n2 0 0 idle\n");
+        assert_eq!(listing(&sheet(q, 2, &[(0, 1, 1)])), "refused 7 0\n");
+        assert_eq!(listing(&sheet(q, 2, &[(2, 1, 0), (1, 2, 0)])), "latency 2\n0 0 0 used\n1 0 0 used\n2 0 0 idle\n");
+    }
+    // A reader with lat reads at level q and is ready at its own q of its own last step.
+    let own = |q: u32| Node { latency: 1, clock_to_q: q, ..reader_of(2, true, 1, &[1]) };
+    for q in 0..=4 {
+        assert_eq!(listing(&memory(2, 3, &[own(q)])), "latency 3\n0 0 0 used\n1 0 0 used\n2 2 4 used\n");
+        let (step, level) = if q < 4 { (3, q + 1) } else { (4, 1) };
+        let found = listing(&memory(2, 3, &[own(q), reader_of(1, true, 1, &[2])]));
+        assert!(found.ends_with(&format!("2 2 4 used\n3 {step} {level} used 2\n")), "{found}");
+    }
+}
+
+#[test]
+fn q_where_it_may_not_be() {
+    // q of the box is at byte 15; T + 1 is too much, and with lat = 0 every q but 0.
+    let reader = reader_of(1, true, 1, &[1]);
+    let whole = memory(2, 4, &[reader.clone()]);
+    assert_eq!(whole[15], 4);
+    assert_eq!(listing(&whole), "latency 3\n0 0 0 used\n1 0 0 used\n2 3 1 used 1\n");
+    for q in [5, 6, 64, 65, 127, 128, 255, 256, 16_384] {
+        assert_eq!(listing(&memory(2, q, &[reader.clone()])), "refused 3 15\n");
+    }
+    for q in [1, 2, 4, 5, 64, 128] {
+        assert_eq!(listing(&memory(0, q, &[reader.clone()])), "refused 3 15\n");
+        // On a table, on an input, and on an input that is node 0.
+        assert_eq!(listing(&memory(2, 3, &[Node { clock_to_q: q, ..reader.clone() }])), "refused 3 22\n");
+        assert_eq!(listing(&memory(2, 3, &[Node { clock_to_q: q, ..input() }])), "refused 3 22\n");
+        assert_eq!(listing(&spelled(&[2, 1, 0, 1, 0, 0, 0, 0, 0, q, 0])), "refused 3 9\n");
+    }
+    assert_eq!(listing(&memory(0, 0, &[reader])), "latency 0\n0 0 0 used\n1 0 0 used\n2 0 1 used 1\n");
+    // Its spelling comes before its value, and the number may be missing.
+    let all = [2, 1, 0, 1, 0, 0, 0, 0, 0, 0, 0];
+    assert_eq!(listing(&respelled(&all, 9, &[0x80, 0])), "refused 2 9\n");
+    assert_eq!(listing(&spelled(&all[..9])), "refused 1 9\n");
+    // A sheet without q has its operand count in its place.
+    assert_eq!(listing(&spelled(&all[..10])), "refused 1 10\n");
+}
+
+#[test]
+fn sheets_with_memories() {
+    println!("seed {}", SEED + 10);
+    let mut random = Random::new(SEED + 10);
+    let mut met = [0; 9];
+    // Plans with a q that is not 0: how many there are, how many differ from the plan with every q = 0, how many in a step, and how many sheets are
+    // late with q and not without.
+    let (mut with_q, mut moved, mut stepped, mut late) = (0, 0, 0, 0);
+    for _ in 0..30000 {
+        let sheet = memories(&mut random, 11, 6, 24);
+        let brute = compare(&spelled(&numbers(&sheet)), &mut met);
+        let mut still = sheet.clone();
+        still.nodes.iter_mut().for_each(|node| node.clock_to_q = 0);
+        let without = planner::planned(&spelled(&numbers(&still)));
+        match (brute, without) {
+            (Ok(plan), Ok(other)) => {
+                let [plan, other] = [plan, other].map(|plan| Plan::decoded(sheet.nodes.len(), &plan));
+                // A memory that delivers later makes nothing earlier.
+                assert!(plan.labels.iter().zip(&other.labels).all(|(label, other)| label >= other), "{sheet:?}");
+                with_q += u32::from(sheet != still);
+                moved += u32::from(plan.labels != other.labels);
+                stepped += u32::from(plan.labels.iter().zip(&other.labels).any(|(label, other)| label.0 > other.0));
+            }
+            (Err((7, 0)), Ok(_)) => late += 1,
+            (Ok(_), Err(without)) => panic!("{without:?} with every q = 0: {sheet:?}"),
+            _ => {}
+        }
+    }
+    println!("calls by number: {met:?}, plans with q: {with_q}, labels moved by q: {moved}, steps: {stepped}, late by q: {late}");
+    assert!([0, 6, 7, 8].iter().all(|&number| met[number] > 1000), "{met:?}");
+    assert!(with_q > 5000 && moved > 4000 && stepped > 3000 && late > 300);
 }

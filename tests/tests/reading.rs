@@ -1,7 +1,7 @@
 //! The proved reader against the independent one: number, place and both tables, on sheets within the ranges, damaged sheets and random bytes.
 use maps_tests::library::{read, Answer, Tables};
 use maps_tests::limits::{width, H};
-use maps_tests::made::{damaged, greatest_up_to, numbers, sheet, spelled};
+use maps_tests::made::{damaged, greatest_up_to, numbers, sheet, spelled, wrong_q};
 use maps_tests::random::Random;
 use maps_tests::reader;
 
@@ -30,15 +30,21 @@ fn made_up_sheets_read() {
     let mut random = Random::new(SEED);
     // How many numbers have one, two and three bytes: of H, and of all.
     let (mut horizons, mut all) = ([0; 3], [0; 3]);
+    // How many boxes with a latency have q = 0, q = T and a q between them.
+    let mut levels = [0; 3];
     for round in 0..4000 {
         let most = if round % 10 == 0 { 256 } else { 12 };
         let sheet = sheet(&mut random, most);
         horizons[width(sheet.horizon) - 1] += 1;
+        for node in sheet.nodes.iter().filter(|node| node.latency > 0) {
+            levels[if node.clock_to_q == 0 { 0 } else if node.clock_to_q == sheet.top { 1 } else { 2 }] += 1;
+        }
         numbers(&sheet).into_iter().for_each(|value| all[width(value) - 1] += 1);
         assert_eq!(compare(&spelled(&numbers(&sheet))), (0, 0));
     }
-    println!("by bytes: H {horizons:?}, all numbers {all:?}");
+    println!("by bytes: H {horizons:?}, all numbers {all:?}; q of 0, of T and between: {levels:?}");
     assert!(horizons.iter().all(|&count| count > 1000) && all.iter().all(|&count| count > 50_000), "{horizons:?} {all:?}");
+    assert!(levels.iter().all(|&count| count > 1000), "{levels:?}");
 }
 
 /// What was wrong with a number: its third byte is missing, its second is 0, its third is 0, its third is above 127.
@@ -79,6 +85,29 @@ fn damaged_sheets_are_refused_alike() {
     assert!(met.iter().all(|&count| count > 200), "each ground occurs often: {met:?}");
     let Spellings { third_missing, second_0, third_0, third_above } = spellings;
     assert!([third_missing, second_0, third_0, third_above].iter().all(|&count| count > 100), "each fault of a spelling occurs often");
+}
+
+#[test]
+fn every_q_out_of_its_range_is_refused_there() {
+    println!("seed {}", SEED + 5);
+    let mut random = Random::new(SEED + 5);
+    // By kind, and last the boxes with a latency.
+    let mut met = [0; 4];
+    for _ in 0..2000 {
+        let whole = sheet(&mut random, 12);
+        // Header, the nodes before, kind, mark, d, lat.
+        let mut index = 5 + 4;
+        for (own, node) in whole.nodes.iter().enumerate() {
+            let mut wrong = whole.clone();
+            wrong.nodes[own].clock_to_q = wrong_q(&mut random, node, whole.top);
+            let all = numbers(&wrong);
+            assert_eq!(compare(&spelled(&all)), (3, spelled(&all[..index]).len() as u64), "q of {own} of {wrong:?}");
+            met[if node.latency > 0 { 3 } else { node.kind as usize }] += 1;
+            index += 6 + node.operands.len();
+        }
+    }
+    println!("inputs, tables, boxes without and with a latency: {met:?}");
+    assert!(met.iter().all(|&count| count > 500), "{met:?}");
 }
 
 #[test]

@@ -259,7 +259,7 @@ fn the_bound_is_enough_for_the_greatest_records() {
         for _ in 0..20 {
             let rows = Rows::from(&Records::from(&greatest(&mut random)));
             let wrong = Rows { differences: vec![256; rows.differences.len()], ..rows.clone() };
-            for (rows, room) in [(&rows, 12_000), (&rows, 0), (&wrong, 12_000)] {
+            for (rows, room) in [(&rows, 13_000), (&rows, 0), (&wrong, 13_000)] {
                 met[write(rows, &mut vec![0; room]).number as usize] += 1;
             }
         }
@@ -288,12 +288,12 @@ fn the_bound_is_enough_for_the_longest_texts() {
             let whole = greatest(&mut random);
             let nodes = whole.nodes.into_iter().map(|node| if node.operands.is_empty() { input() } else { table(node.output, &node.operands) });
             let text = abc(&mut random, &Sheet { nodes: nodes.collect(), differences: Vec::new(), ..whole });
-            import_in(&text, 12_000);
+            import_in(&text, 13_000);
             import_in(&text, 0);
         }
         for count in [2, 255, 256, 257, 5_000, 21_000] {
-            import_in(&listed(count, false), 12_000);
-            import_in(&listed(count, true), 12_000);
+            import_in(&listed(count, false), 13_000);
+            import_in(&listed(count, true), 13_000);
         }
         // As many words as a text can have, and as many lines.
         import_in(&[b".model m\n.inputs".as_slice(), &b" a".repeat(32_758)].concat(), 0);

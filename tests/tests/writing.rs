@@ -4,8 +4,8 @@
 use maps_tests::buffer::{after, lent};
 use maps_tests::header::defined;
 use maps_tests::library::{read, write, Answer, Tables};
-use maps_tests::limits::{fields, width, Range, CODE, H, K, KIND, M, MARK, N, NUMBER, SIZES, T, W};
-use maps_tests::made::{self, chain, code, damaged, greatest, long, ring, sheet, small, spelled, stairs, variant, Size};
+use maps_tests::limits::{clock_to_q, fields, width, Range, CODE, H, K, KIND, M, MARK, N, NUMBER, SIZES, T, W};
+use maps_tests::made::{self, chain, code, damaged, greatest, long, memories, ring, sheet, small, spelled, stairs, variant, Size};
 use maps_tests::random::Random;
 use maps_tests::reader::{self, Difference, Sheet};
 use maps_tests::writer::{outcome, Node, Records, Rows};
@@ -13,7 +13,7 @@ use maps_tests::writer::{outcome, Node, Records, Rows};
 const SEED: u64 = 20260106;
 
 /// A room that no sheet exceeds.
-const AMPLE: usize = 12_000;
+const AMPLE: usize = 13_000;
 
 /// Compares the library with the independent writer in one room, and gives number and place.
 fn compare_in(rows: &Rows, room: usize) -> (u64, u64) {
@@ -59,7 +59,7 @@ enum Number {
     Header(usize),
     Nodes,
     Differences,
-    /// Kind, mark, d or lat of a node.
+    /// Kind, mark, d, lat or q of a node.
     Field(usize, usize),
     Operands(usize),
     Operand(usize, usize),
@@ -72,7 +72,7 @@ enum Number {
 fn all_numbers(records: &Records) -> Vec<Number> {
     let mut all: Vec<Number> = (0..3).map(Number::Header).chain([Number::Nodes, Number::Differences]).collect();
     for (v, node) in records.nodes.iter().enumerate() {
-        all.extend((0..4).map(|field| Number::Field(v, field)));
+        all.extend((0..5).map(|field| Number::Field(v, field)));
         all.push(Number::Operands(v));
         all.extend((0..node.operands.len()).map(|i| Number::Operand(v, i)));
     }
@@ -91,7 +91,7 @@ impl Number {
             Number::Differences => records.differences.len() as u32,
             Number::Field(v, field) => {
                 let node = &records.nodes[v];
-                [node.kind, node.output, node.delay, node.latency][field]
+                [node.kind, node.output, node.delay, node.latency, node.clock_to_q][field]
             }
             Number::Operands(v) => records.nodes[v].operands.len() as u32,
             Number::Operand(v, i) => records.nodes[v].operands[i],
@@ -109,7 +109,7 @@ impl Number {
             Number::Differences => records.differences.resize(count, Difference { from: 0, to: 0, weight: 0 }),
             Number::Field(v, field) => {
                 let node = &mut records.nodes[v];
-                *[&mut node.kind, &mut node.output, &mut node.delay, &mut node.latency][field] = value;
+                *[&mut node.kind, &mut node.output, &mut node.delay, &mut node.latency, &mut node.clock_to_q][field] = value;
             }
             Number::Operands(v) => records.nodes[v].operands.resize(count, 0),
             Number::Operand(v, i) => records.nodes[v].operands[i] = value,
@@ -127,8 +127,9 @@ impl Number {
             Number::Nodes => (Some(N), 3),
             Number::Differences => (Some(M), 3),
             Number::Field(v, field) => {
-                let fields = fields(records.nodes[v].kind, records.top);
-                (Some([KIND, MARK, fields.delay, fields.latency][field]), 3)
+                let Node { kind, latency, .. } = records.nodes[v];
+                let fields = fields(kind, records.top);
+                (Some([KIND, MARK, fields.delay, fields.latency, clock_to_q(kind, latency, records.top)][field]), 3)
             }
             Number::Operands(v) => (Some(fields(records.nodes[v].kind, records.top).operands), 3),
             Number::Operand(v, _) => (v.checked_sub(1).map(|most| (0, most as u32)), 4),
@@ -246,7 +247,7 @@ fn every_number_made_wrong() {
         // The header, the last node, the first and the last difference, and some between them.
         let all = all_numbers(&records);
         let first_difference = all.len() - 3 * records.differences.len();
-        let last_node = first_difference - 5 - records.nodes[nodes - 1].operands.len();
+        let last_node = first_difference - 6 - records.nodes[nodes - 1].operands.len();
         let always = |index: usize| index < 5 || (last_node..first_difference + 3).contains(&index) || index + 3 >= all.len();
         for (index, &number) in all.iter().enumerate().filter(|&(index, _)| always(index) || index % step == 0) {
             every_wrong_value(&records, index, number, &mut met);
@@ -257,13 +258,36 @@ fn every_number_made_wrong() {
 }
 
 #[test]
+fn the_first_q_is_number_9() {
+    let answer = |kind: u32, latency: u32, clock_to_q: u32, operands: usize| {
+        let node = Node { kind, output: 0, delay: kind & 1, latency, clock_to_q, operands: vec![0; operands] };
+        let records = Records { leaves: K.0, top: 4, horizon: H.0, nodes: vec![node], differences: Vec::new() };
+        compare_in(&Rows::from(&records), 100)
+    };
+    for q in [1, 4, 5, 64, 65, 127, 128, NUMBER, NUMBER + 1, u32::MAX] {
+        // An input, a table, a box without a latency: before the count, which is number 10, and before the operands.
+        for (kind, operands) in [(0, 0), (0, 1), (1, 0), (1, 1), (2, 0), (2, 1), (2, 7)] {
+            assert_eq!(answer(kind, 0, q, operands), (3, 9), "q = {q} on kind {kind}");
+        }
+        for latency in [1, 2, 127, 128, 255] {
+            let length = 11 + u64::from(latency > 127);
+            assert_eq!(answer(2, latency, q, 0), if q > 4 { (3, 9) } else { (0, length) }, "q = {q} with lat = {latency}");
+            assert_eq!(answer(2, latency, q, 7), if q > 4 { (3, 9) } else { (3, 10) }, "q = {q} with lat = {latency}");
+        }
+        assert_eq!(answer(2, 256, q, 0), (3, 8));
+    }
+    assert_eq!(answer(0, 0, 0, 1), (3, 10));
+    assert_eq!(answer(2, 0, 0, 1), (4, 11));
+}
+
+#[test]
 fn operands_of_node_0_are_refused() {
     for kind in [1, 2] {
         for id in [0, 1, NUMBER, u32::MAX] {
             for count in 1..=6 {
-                let node = Node { kind, output: 0, delay: 1, latency: 0, operands: vec![id; count] };
+                let node = Node { kind, output: 0, delay: 1, latency: 0, clock_to_q: 0, operands: vec![id; count] };
                 let records = Records { leaves: K.0, top: T.0, horizon: H.0, nodes: vec![node], differences: Vec::new() };
-                assert_eq!(compare_in(&Rows::from(&records), 100), (4, 10));
+                assert_eq!(compare_in(&Rows::from(&records), 100), (4, 11));
             }
         }
     }
@@ -296,7 +320,7 @@ fn the_first_of_two_wrong_numbers_decides() {
 
 #[test]
 fn more_than_a_sheet_holds() {
-    let node = |operands: usize| Node { kind: 2, output: 0, delay: 0, latency: 0, operands: vec![0; operands] };
+    let node = |operands: usize| Node { kind: 2, output: 0, delay: 0, latency: 0, clock_to_q: 0, operands: vec![0; operands] };
     let difference = Difference { from: 0, to: 0, weight: 0 };
     let records = |n: usize, operands: usize, m: usize| {
         let nodes = (0..n).map(|own| node(if own == 1 { operands } else { 0 })).collect();
@@ -315,7 +339,7 @@ fn more_than_a_sheet_holds() {
         assert_eq!(compare_in(&records(most, 7, m), 10 * AMPLE), (3, 4), "{m} differences");
     }
     for operands in [7, 8, 256, 258, 65_536, 65_538] {
-        assert_eq!(compare_in(&records(2, operands, 1), 10 * AMPLE), (3, 14), "{operands} operands");
+        assert_eq!(compare_in(&records(2, operands, 1), 10 * AMPLE), (3, 16), "{operands} operands");
     }
 }
 
@@ -337,11 +361,14 @@ fn any_ends(random: &mut Random) -> Rows {
             5 => u32::MAX - random.within(0, 1),
             _ => start.saturating_add(random.within(0, 4)),
         };
-        nodes.extend([kind, random.within(0, 1), 1 & kind, 0, end]);
+        // A box may have a latency and then a q of 0 or 1; elsewhere q is 0, or seldom wrong.
+        let latency = if kind == 2 { random.within(0, 1) } else { 0 };
+        let clock_to_q = if latency == 1 { random.within(0, 1) } else { random.within(0, 40) / 40 };
+        nodes.extend([kind, random.within(0, 1), 1 & kind, latency, end, clock_to_q]);
         start = end;
     }
     let mut differences: Vec<u32> = (0..random.within(0, 2)).flat_map(|_| [random.within(0, n - 1), 0, random.within(0, 3)]).collect();
-    nodes.extend((0..random.within(0, 4)).map(|_| random.within(0, 9)));
+    nodes.extend((0..random.within(0, 5)).map(|_| random.within(0, 9)));
     differences.extend((0..random.within(0, 2)).map(|_| random.within(0, 9)));
     Rows { leaves: 2, top: 1, horizon: random.within(0, 200), nodes, operands, differences }
 }
@@ -351,7 +378,7 @@ fn rows_with_any_ends() {
     let (mut falling, mut past) = (0, 0);
     let met = compare_all(SEED + 4, 20000, |random, _| {
         let rows = any_ends(random);
-        let ends: Vec<u32> = rows.nodes.chunks_exact(5).map(|row| row[4]).collect();
+        let ends: Vec<u32> = rows.nodes.chunks_exact(6).map(|row| row[4]).collect();
         falling += u32::from(ends.windows(2).any(|pair| pair[1] < pair[0]));
         past += u32::from(ends.iter().any(|&end| end as usize > rows.operands.len()));
         rows
@@ -362,11 +389,11 @@ fn rows_with_any_ends() {
 
 #[test]
 fn rows_of_any_numbers() {
-    let met = compare_all(SEED + 5, 20000, |random, _| {
+    let met = compare_all(SEED + 5, 30000, |random, _| {
         let any = |random: &mut Random, most: u32| -> Vec<u32> {
             (0..random.within(0, most)).map(|_| if random.once_in(20) { random.next() as u32 } else { random.within(0, 9) / 7 }).collect()
         };
-        let (nodes, operands, differences) = (any(random, 20), any(random, 8), any(random, 9));
+        let (nodes, operands, differences) = (any(random, 24), any(random, 8), any(random, 9));
         Rows { leaves: random.within(2, 6), top: random.within(1, 3), horizon: random.within(0, 300), nodes, operands, differences }
     });
     assert!([0, 3, 4, 8].iter().all(|&number| met[number] > 400), "{met:?}");
@@ -376,9 +403,9 @@ fn rows_of_any_numbers() {
 fn rows_of(tables: &Tables, sheet: &Sheet) -> Rows {
     let (mut nodes, mut operands) = (Vec::new(), Vec::new());
     for row in tables.graph.chunks(16).take(sheet.nodes.len()) {
-        operands.extend(&row[5..5 + row[4] as usize]);
+        operands.extend(&row[6..6 + row[5] as usize]);
         nodes.extend(&row[..4]);
-        nodes.push(operands.len() as u32);
+        nodes.extend([operands.len() as u32, row[4]]);
     }
     let differences = tables.differences.chunks(4).take(sheet.differences.len()).flat_map(|row| [row[0], row[1], row[2].wrapping_sub(row[3])]);
     let differences = differences.collect();
@@ -409,14 +436,15 @@ fn there_and_back(bytes: &[u8]) -> bool {
 fn sheets_there_and_back() {
     println!("seed {}", SEED + 6);
     let mut random = Random::new(SEED + 6);
-    for round in 0..7000 {
-        let sheet = match round % 7 {
+    for round in 0..8000 {
+        let sheet = match round % 8 {
             0 => stairs(&mut random),
             1 => ring(&mut random, 11, true),
             2 => small(&mut random, &Size { nodes: 12, top: 64, horizon: H.1, latency: 255, wide: false }),
             3 => small(&mut random, &Size { nodes: 9, top: 3, horizon: 40, latency: 30, wide: true }),
             4 => long(&mut random),
-            _ => sheet(&mut random, if round % 70 == 5 { 256 } else { 12 }),
+            5 => memories(&mut random, 11, 64, H.1),
+            _ => sheet(&mut random, if round % 80 == 6 { 256 } else { 12 }),
         };
         assert!(there_and_back(&spelled(&made::numbers(&sheet))), "{sheet:?} reads");
     }
@@ -490,7 +518,7 @@ fn lengths_at_each_count_of_bytes() {
         for (weight, weight_bytes) in weights {
             let nodes = vec![Node::from(&made::input())];
             let records = Records { leaves: 2, top: 1, horizon, nodes, differences: vec![Difference { from: 0, to: 0, weight }] };
-            let bytes = [&[2, 1], horizon_bytes, &[1, 1, 0, 0, 0, 0, 0, 0, 0], weight_bytes].concat();
+            let bytes = [&[2, 1], horizon_bytes, &[1, 1, 0, 0, 0, 0, 0, 0, 0, 0], weight_bytes].concat();
             let length = bytes.len();
             let rows = Rows::from(&records);
             let (answer, written) = lent(length, |buffer| write(&rows, buffer));
@@ -507,7 +535,8 @@ fn lengths_at_each_count_of_bytes() {
 fn the_header_says_what_no_sheet_exceeds() {
     let head = [K.1, T.1, H.1, N.1, M.1].map(width).iter().sum::<usize>();
     let most = |of: fn(u32) -> u32| width((0..=KIND.1).map(of).max().unwrap());
-    let fixed = width(KIND.1) + width(MARK.1) + most(|kind| fields(kind, T.1).delay.1) + most(|kind| fields(kind, T.1).latency.1);
+    let times = most(|kind| fields(kind, T.1).delay.1) + most(|kind| fields(kind, T.1).latency.1) + most(|kind| clock_to_q(kind, 1, T.1).1);
+    let fixed = width(KIND.1) + width(MARK.1) + times;
     let operands = (0..=KIND.1).map(|kind| fields(kind, T.1).operands.1).max().unwrap();
     let node = fixed + width(operands) + operands as usize * width(N.1 - 2);
     let difference = 2 * width(N.1 - 1) + width(CODE.1);
@@ -515,7 +544,7 @@ fn the_header_says_what_no_sheet_exceeds() {
     // The longest: boxes, which read the node before them as often as they may.
     let nodes = (0..N.1).map(|own| {
         let operands = if own == 0 { Vec::new() } else { vec![own - 1; operands as usize] };
-        Node { kind: 2, output: 1, delay: T.1, latency: fields(2, T.1).latency.1, operands }
+        Node { kind: 2, output: 1, delay: T.1, latency: fields(2, T.1).latency.1, clock_to_q: T.1, operands }
     });
     let nodes = nodes.collect();
     let differences = vec![Difference { from: N.1 - 1, to: N.1 - 2, weight: W as i32 }; M.1 as usize];
@@ -523,7 +552,7 @@ fn the_header_says_what_no_sheet_exceeds() {
     // Node 0 has no operands, and those of 128 more nodes have one byte.
     let shorter = 2 * u64::from(operands) + 128 * u64::from(operands);
     let length = defined("MAPS_SHEET_MOST") - shorter;
-    assert_eq!(length, 11_005);
+    assert_eq!(length, 11_261);
     for (room, number) in [(defined("MAPS_SHEET_MOST"), 0), (length, 0), (length - 1, 8), (0, 8)] {
         assert_eq!(compare_in(&rows, room as usize), (number, length));
     }

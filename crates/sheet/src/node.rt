@@ -84,11 +84,7 @@ pub fn head_at(sheet: &[u8], c: Cursor, top: u32) -> HeadRead
     };
     let clocks = all.clock_to_q(latency, top);
     let clock_read = field_in(sheet, c4, clocks);
-    let Number::Value {
-        value: q,
-        next: c5,
-    } = clock_read
-    else {
+    let Number::Value { value: q, next: c5 } = clock_read else {
         return HeadRead::Refused(refusal_of(clock_read));
     };
     let counts = all.operands;

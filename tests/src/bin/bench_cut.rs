@@ -26,10 +26,10 @@ fn sheet(random: &mut Random, inputs: u32, reach: u32) -> Sheet {
     let nodes = (0..256u32)
         .map(|own| {
             if own < inputs {
-                return Node { kind: 0, output: false, delay: 0, latency: 0, operands: Vec::new() };
+                return Node { kind: 0, output: false, delay: 0, latency: 0, clock_to_q: 0, operands: Vec::new() };
             }
             let operands = (0..6).map(|_| own - random.within(1, reach.min(own))).collect();
-            Node { kind: 1, output: own > 250, delay: 1, latency: 0, operands }
+            Node { kind: 1, output: own > 250, delay: 1, latency: 0, clock_to_q: 0, operands }
         })
         .collect();
     Sheet { leaves: 6, top: 8, horizon: 100, nodes, differences: Vec::new() }

@@ -9,7 +9,7 @@ use std::hint::black_box;
 use std::time::Instant;
 
 /// A room that no sheet exceeds.
-const AMPLE: usize = 12_000;
+const AMPLE: usize = 13_000;
 
 const CALLER: Caller = Caller { leaves: 6, top: 64, horizon: 4_095, table: 900, level: 100 };
 

@@ -46,13 +46,13 @@ fn calls() -> Vec<Call> {
 
 /// An input that is no output.
 fn input() -> Node {
-    Node { kind: 0, output: false, delay: 0, latency: 0, operands: Vec::new() }
+    Node { kind: 0, output: false, delay: 0, latency: 0, clock_to_q: 0, operands: Vec::new() }
 }
 
 /// A table that reads `count` of the `reach` nodes below it.
 fn table(random: &mut Random, own: u32, count: u32, reach: u32, delay: u32) -> Node {
     let operands = (0..count).map(|_| own - random.within(1, reach.min(own))).collect();
-    Node { kind: 1, output: random.once_in(8), delay, latency: 0, operands }
+    Node { kind: 1, output: random.once_in(8), delay, latency: 0, clock_to_q: 0, operands }
 }
 
 /// A sheet with six inputs below the nodes that `node` makes, K = 6 and H = 4,095.
@@ -98,6 +98,13 @@ fn boxes(random: &mut Random, n: u32) -> Sheet {
         }
         node
     })
+}
+
+/// The same where the boxes deliver at some level of their last step.
+fn late_boxes(random: &mut Random, n: u32) -> Sheet {
+    let mut sheet = boxes(random, n);
+    sheet.nodes.iter_mut().filter(|node| node.latency > 0).for_each(|node| node.clock_to_q = random.within(0, 8));
+    sheet
 }
 
 /// Differences that point to higher ids, four for a node.
@@ -219,11 +226,12 @@ fn main() {
         return;
     }
     println!("{:<34}{:>4} {:>4} {:>4}{:>13} {:>9} {:>9}", "sheets", "0", "6", "7", "", "mean", "worst");
-    let kinds: [(&str, fn(&mut Random, u32) -> Sheet); 8] = [
+    let kinds: [(&str, fn(&mut Random, u32) -> Sheet); 9] = [
         ("wide logic", wide),
         ("wide rules", rules),
         ("deep chains", deep),
         ("boxes with latency", boxes),
+        ("boxes with latency and q", late_boxes),
         ("differences forward", forward),
         ("differences backward", backward),
         ("rings that hold", holding),

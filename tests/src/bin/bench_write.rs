@@ -11,7 +11,7 @@ use std::hint::black_box;
 use std::time::Instant;
 
 /// A room that no sheet exceeds.
-const AMPLE: usize = 12_000;
+const AMPLE: usize = 13_000;
 
 /// How often each work is timed, and how many calls are one timing.
 const RUNS: usize = 200;
