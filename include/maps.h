@@ -115,7 +115,7 @@ struct maps_node {
     uint32_t delay;        /* d, in levels */
     uint32_t latency;      /* lat, in steps */
     uint32_t operands_end; /* the index in `operands` behind the last of this node's */
-    uint32_t clock_to_q;   /* q, the level of its last step at which a box with a latency delivers: its clock-to-Q level; 0 for every other node */
+    uint32_t clock_to_q;   /* q, the clock-to-Q level: a box with a latency delivers at it, `latency` steps on; 0 for every other node */
 };
 
 /* A difference: step of `to` >= step of `from` + `weight`. */

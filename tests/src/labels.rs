@@ -14,7 +14,7 @@ pub fn plus(label: Label, delay: u32, top: u32) -> Label {
     }
 }
 
-/// The ready label of a node: of one with a latency, level q of its last step (document 02, U5).
+/// The ready label of a node: of one with a latency, level q of the step so many steps on (document 02, U5).
 pub fn ready(node: &Node, label: Label) -> Label {
     if node.latency == 0 {
         label

@@ -7,7 +7,7 @@ pub struct Node {
     pub output: bool,
     pub delay: u32,
     pub latency: u32,
-    /// q, the level of its last step at which a box with a latency delivers; 0 for every other node.
+    /// q, the level at which a box with a latency delivers, so many steps on; 0 for every other node.
     pub clock_to_q: u32,
     pub operands: Vec<u32>,
 }

@@ -593,7 +593,7 @@ fn q_enters_no_step() {
         assert_eq!(listing(&sheet(q, 2, &[(0, 1, 1)])), "refused 7 0\n");
         assert_eq!(listing(&sheet(q, 2, &[(2, 1, 0), (1, 2, 0)])), "latency 2\n0 0 0 used\n1 0 0 used\n2 0 0 idle\n");
     }
-    // A reader with lat reads at level q and is ready at its own q of its own last step.
+    // A reader with lat reads at level q and is ready at its own q.
     let own = |q: u32| Node { latency: 1, clock_to_q: q, ..reader_of(2, true, 1, &[1]) };
     for q in 0..=4 {
         assert_eq!(listing(&memory(2, 3, &[own(q)])), "latency 3\n0 0 0 used\n1 0 0 used\n2 2 4 used\n");

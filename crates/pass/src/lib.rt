@@ -54,7 +54,7 @@ pub fn node_label(
     match kind {
         Kind::Logic => table_label(graph, steps, levels, kept, limits, v, base),
         Kind::Input => base,
-        Kind::Box { .. } => { latest_arrival(graph, steps, levels, v, Level(limits.top), base) }
+        Kind::Box { .. } => latest_arrival(graph, steps, levels, v, Level(limits.top), base),
     }
 }
 

@@ -100,7 +100,7 @@ fn boxes(random: &mut Random, n: u32) -> Sheet {
     })
 }
 
-/// The same where the boxes deliver at some level of their last step.
+/// The same where the boxes deliver some levels into their ready step.
 fn late_boxes(random: &mut Random, n: u32) -> Sheet {
     let mut sheet = boxes(random, n);
     sheet.nodes.iter_mut().filter(|node| node.latency > 0).for_each(|node| node.clock_to_q = random.within(0, 8));
