@@ -117,6 +117,9 @@ pub fn arrival(
 {
     let own = label_of(steps, levels, u);
     let lat = latency_in(graph, u);
+    if lat.0 == 0 {
+        return own.plus(delay, top);
+    }
     let q = clock_to_q_in(graph, u);
     let ready = own.ready(lat, q);
     ready.plus(delay, top)
