@@ -102,7 +102,7 @@ pub fn ready_step(graph: &Graph, steps: &Steps, u: u32) -> Step
     own.after(lat)
 }
 
-// The label at which u arrives at a node of the given delay.
+// The label at which u arrives at a node of the given delay. Most nodes have no latency; of these q is not looked up.
 pub fn arrival(
     graph: &Graph,
     steps: &Steps,
