@@ -1,5 +1,5 @@
 -- Document 01, "The sheet": its limits, each said once. Whatever depends on a limit cites it here by its name.
-use Prim.Native.Nat.{ℕ, zero, suc, _+_, _-_}
+use Prim.Native.Nat.{ℕ, zero, suc, _+_, _-_, _*_}
 
 -- the values from low to high
 pub record Range : Type 0 where
@@ -50,6 +50,10 @@ operandsMost = 6
 
 abbrev pub latencyMost : ℕ
 latencyMost = 255
+
+-- no ready label of least labels is later than this step, whatever the sheet and its horizon
+abbrev pub reachMost : ℕ
+reachMost = (sizeRange .high - 1) * weightMost + latencyMost
 
 -- document 02, U5: q is "0 to T for a box with lat of 1 or more, 0 for all others"
 abbrev pub clockToQRange : (top lat : ℕ) → Range
