@@ -1,0 +1,90 @@
+-- The labels of any horizon: `leastEver` gives the least legal labels, or says late, and then nothing is legal under any horizon. Where they are in
+-- time for a horizon they are the least legal ones within it; where not, nothing is legal within it, but within a larger one.
+use Prim.Native.Nat.{ℕ, _+_, _≤_, _<_}
+use mathlib.Core.Path.{_≡_, refl, sym, subst}
+use mathlib.Core.Bool.{Bool, true, false}
+use mathlib.Core.List.{List, []}
+use native.Mathlib.Omega.{arith}
+use lib.Dec.{leb}
+use lib.ListN.{length}
+use borrow.Author.Tests.{leb-true, leb-false}
+use Rattle.maps.specs.Label.{Label}
+use Rattle.maps.specs.Sheet.{Sheet, size, latency}
+use Rattle.maps.specs.WellFormed.{WellFormed}
+use Rattle.maps.specs.Legal.{Legal, NoneLegal, Never, Longer, Least}
+use Rattle.maps.specs.Least.{at, inTime, Labels, late, least, Answer, none, some, leastWithin, reach, leastEver}
+use Rattle.maps.specs.Outcome.{cutless}
+use Rattle.maps.proofs.Over.{all-below, all-fails}
+use Rattle.maps.proofs.Fix.{is-least, is-late}
+use Rattle.maps.proofs.Planned.{least-right}
+use Rattle.relax.proofs.Closed.{Closed, well-closed}
+use Rattle.relax.proofs.Guard.{legal-node, legal-diffs, ok-legal}
+use Rattle.never.specs.Ever as E
+use Rattle.never.proofs.Reach.{least-reach}
+
+ever-is : (S : Sheet) → leastEver S ≡ leastWithin S (reach S)
+unfolding leastEver
+ever-is S = refl
+
+module _ (S : Sheet) (well : WellFormed S) (cuts : cutless S ≡ []) where
+  closed : Closed S
+  closed = well-closed S well
+
+  -- whatever has a legal labelling has least labels, and they are within reach
+  some-reach : (M : ℕ → Label) (G : ℕ) → Legal S M G → (L : List Label) × Least S (reach S) (at L)
+  some-reach M G ok = go (least-right S well cuts G)
+    where
+      go : {r : Labels} → Answer S G r → (L : List Label) × Least S (reach S) (at L)
+      go (none h) = absurd (h M ok)
+      go (some {L} n h) = (L, least-reach S closed G (at L) h)
+
+  -- Why no horizon need be tried but `reach`. Suppose that nothing is legal within it, and M within some G. Then there are least labels within G,
+  -- for the computed ones are (`least-right`), and no least label is later than `reach`: they are legal within it after all.
+  pub ever-right : E.Ever S (leastEver S)
+  ever-right = subst (E.Ever S) (sym (ever-is S)) (go (least-right S well cuts (reach S)))
+    where
+      go : {r : Labels} → Answer S (reach S) r → E.Ever S r
+      go (none h) = E.never (λ G M ok. let r = some-reach M G ok in h (at (r .0)) (r .1 .legal))
+      go (some {L} n h) = E.some n h
+
+  -- the labels of any horizon, against a horizon H
+  module _ (L : List Label) (h : Least S (reach S) (at L)) (H : ℕ) where
+    pub in-time : inTime S L H ≡ true → Least S H (at L)
+    in-time e =
+        record {
+          legal = ok-legal S (at L) closed H (λ v l. legal-node S (at L) (h .legal) v l) (λ v l. legal-diffs S (at L) (h .legal) v)
+              (λ v l. leb-true _ _ (all-below (λ v. leb (at L v .step + latency S v) H) (size S) e v l));
+          least = h .least;
+        }
+
+    pub past : inTime S L H ≡ false → (v : ℕ) × (v < size S) × (H < at L v .step + latency S v)
+    past e =
+        let f = all-fails (λ v. leb (at L v .step + latency S v) H) (size S) e in
+        (f .0, f .1, leb-false _ _ (f .2))
+
+    pub none-in-time : inTime S L H ≡ false → NoneLegal S H
+    none-in-time e M ok = let f = past e in omega (arith, f .2, h .least M H ok (f .0) (f .1) .steps, ok .nodes (f .0) (f .1) .ends)
+
+  pub longer : (L : List Label) → Least S (reach S) (at L) → inTime S L (S .horizon) ≡ false → Longer S
+  longer L h e =
+      let f = past L h (S .horizon) e in
+      record {
+        none = none-in-time L h (S .horizon) e;
+        horizon = reach S;
+        larger = omega (arith, f .2, h .legal .nodes (f .0) (f .1) .ends);
+        labels = at L;
+        legal = h .legal;
+      }
+
+  -- a horizon that is no nearer than `reach` gives the same labels
+  pub far-ever : (G : ℕ) → reach S ≤ G → leastWithin S G ≡ leastEver S
+  far-ever G far = go ever-right
+    where
+      go : {r : Labels} → E.Ever S r → leastWithin S G ≡ r
+      go (E.never h) = is-late S G (least-right S well cuts G) (h G)
+      go (E.some {L} n h) =
+          is-least S G (least-right S well cuts G) L n (record {
+            legal = ok-legal S (at L) closed G (λ v l. legal-node S (at L) (h .legal) v l) (λ v l. legal-diffs S (at L) (h .legal) v)
+                (λ v l. omega (arith, h .legal .nodes v l .ends));
+            least = h .least;
+          })

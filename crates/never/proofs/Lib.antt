@@ -1,0 +1,3 @@
+pub mod Meet
+pub mod Reach
+pub mod Horizons
