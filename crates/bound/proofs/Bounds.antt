@@ -20,7 +20,7 @@ use Rattle.bound.specs.Going.{Given, Timed}
 use Rattle.bound.proofs.Safety.{graph-falls, soon-all, summed-all}
 
 module _ (S : Sheet) (graph differences : List ℕ) (limits : R.Header) (given : Given S graph differences limits)
-    (steps levels : List ℕ) (timed : Timed S steps levels) (v : ℕ) (l : v < size S) where
+    (steps levels : List ℕ) (timed : Timed S (limits .horizon) steps levels) (v : ℕ) (l : v < size S) where
   abbrev L : ℕ → Label
   L = labelIn steps levels
 

@@ -32,14 +32,15 @@ raised-tables S steps levels v s l p q =
 module _ {S : Sheet} {graph differences : List ℕ} {limits : R.Header} (g : Given S graph differences limits) (steps levels : List ℕ)
     (v : ℕ) (l : v < limits .nodes) (b : Label) where
   -- a forced label past the horizon
-  pub forced-late : Guarded S (labelIn steps levels) → Forced S (labelIn steps levels) v b → limits .horizon < endIn graph v (b .step) → NoneLegal S
+  pub forced-late : Guarded S (labelIn steps levels) → Forced S (labelIn steps levels) v b → limits .horizon < endIn graph v (b .step) → NoneLegal S (limits .horizon)
   forced-late guarded f h M legal =
       let inside = node-in g v l .0 in
-      let up = f .forced M (guarded-under S (labelIn steps levels) guarded M (S .horizon) legal) (legal-node S M legal v inside) (legal-diffs S M legal v) in
-      omega (arith, up .steps, legal .nodes v inside .ends, latency-is g v l, g .horizon)
+      let up = f .forced M (guarded-under S (labelIn steps levels) guarded M (limits .horizon) legal) (legal-node S M legal v inside) (legal-diffs S M legal v) in
+      omega (arith, up .steps, legal .nodes v inside .ends, latency-is g v l)
 
   -- one within it
-  pub placed-timed : Timed S steps levels → endIn graph v (b .step) ≤ limits .horizon → Timed S (set steps v (b .step)) (set levels v (b .level))
+  pub placed-timed : Timed S (limits .horizon) steps levels → endIn graph v (b .step) ≤ limits .horizon
+      → Timed S (limits .horizon) (set steps v (b .step)) (set levels v (b .level))
   placed-timed timed h =
       record {
         steps-wide = length-set steps v (b .step) ∙ timed .steps-wide;
@@ -47,17 +48,17 @@ module _ {S : Sheet} {graph differences : List ℕ} {limits : R.Header} (g : Giv
         ends = λ u k. ends u k (eqb u v) refl;
       }
     where
-      mine : b .step + latency S v ≤ S .horizon
-      mine = omega (arith, latency-is g v l, g .horizon, g .well .horizon .most)
+      mine : b .step + latency S v ≤ limits .horizon
+      mine = omega (arith, latency-is g v l)
 
-      ends : (u : ℕ) → u < size S → (t : Bool) → eqb u v ≡ t → getD (set steps v (b .step)) u 0 + latency S u ≤ S .horizon
+      ends : (u : ℕ) → u < size S → (t : Bool) → eqb u v ≡ t → getD (set steps v (b .step)) u 0 + latency S u ≤ limits .horizon
       ends u k true e =
-          subst (λ (w : ℕ). getD (set steps v (b .step)) w 0 + latency S w ≤ S .horizon) (sym (eqb-true u v e))
+          subst (λ (w : ℕ). getD (set steps v (b .step)) w 0 + latency S w ≤ limits .horizon) (sym (eqb-true u v e))
           (omega (arith, getD-set-same steps v (b .step) 0 (omega (arith, timed .steps-wide, node-in g v l .1)), mine))
       ends u k false e = omega (arith, getD-set-other steps v u (b .step) 0 (eqb-false u v e), timed .ends u k)
 
   -- the labels with it
-  pub placed-raised : Timed S steps levels → Raised S (labelIn steps levels) v b (labelIn (set steps v (b .step)) (set levels v (b .level)))
+  pub placed-raised : Timed S (limits .horizon) steps levels → Raised S (labelIn steps levels) v b (labelIn (set steps v (b .step)) (set levels v (b .level)))
   placed-raised timed =
       let w = node-in g v l .1 in
       raised-tables S steps levels v (b .step) (b .level) (omega (arith, timed .steps-wide)) (omega (arith, timed .levels-wide))

@@ -73,10 +73,11 @@ module _ {S : Sheet} {graph differences : List ℕ} {limits : R.Header} (g : Giv
           g .listed .minuses i k,
         )
 
-  -- Sums fit 32 bits: a step that is in time is at most H with its latency, a weight is no greater than H can be, and no sum has more than these two.
-  module _ {steps levels : List ℕ} (t : Timed S steps levels) where
+  -- Sums fit 32 bits: a step that is in time is with its latency at most the horizon, which is below 2^24, a weight is at most 65,535, and no sum has
+  -- more than these two.
+  module _ {steps levels : List ℕ} (t : Timed S (limits .horizon) steps levels) where
     pub soon-all : (u : ℕ) → u < limits .nodes → Soon graph steps u
-    soon-all u l = omega (arith, latency-is u l, t .ends u (node-in u l .0), g .well .horizon .most)
+    soon-all u l = omega (arith, latency-is u l, t .ends u (node-in u l .0), g .near)
 
     pub summed-all : (i : ℕ) → i < limits .differences → Summed differences steps i
     summed-all i l =
@@ -86,8 +87,8 @@ module _ {S : Sheet} {graph differences : List ℕ} {limits : R.Header} (g : Giv
         record {
           from = omega (arith, g .listed .froms i k, w .from, g .well .size .most);
           to = targets i l;
-          ahead = omega (arith, ap (λ (u : ℕ). getD steps u 0) (g .listed .froms i k), g .listed .pluses i k, w .plus, t .ends (d .from) (w .from), g .well .horizon .most);
-          behind = omega (arith, ap (λ (u : ℕ). getD steps u 0) (g .listed .tos i k), g .listed .minuses i k, w .minus, t .ends (d .to) (w .to), g .well .horizon .most);
+          ahead = omega (arith, ap (λ (u : ℕ). getD steps u 0) (g .listed .froms i k), g .listed .pluses i k, w .plus, t .ends (d .from) (w .from), g .near);
+          behind = omega (arith, ap (λ (u : ℕ). getD steps u 0) (g .listed .tos i k), g .listed .minuses i k, w .minus, t .ends (d .to) (w .to), g .near);
         }
 
 -- what a pass works on has the bounds of each node

@@ -35,7 +35,7 @@ pub record SettledNode (S : Sheet) (kept steps levels : List ℕ) (v : ℕ) (a :
 abbrev pub Turned : (S : Sheet) (graph differences : List ℕ) (limits : R.Header) (first next kept steps levels steps' levels' : List ℕ) (v : ℕ) → Bool → Type 0
 Turned S graph differences limits first next kept steps levels steps' levels' v r =
     Ends r (Going S graph differences limits first next kept steps' levels'
-    × (b : Label) × Settles S (labelIn steps levels) v b × (steps' ≡ set steps v (b .step)) × (levels' ≡ set levels v (b .level))) (NoneLegal S)
+    × (b : Label) × Settles S (labelIn steps levels) v b × (steps' ≡ set steps v (b .step)) × (levels' ≡ set levels v (b .level))) (NoneLegal S (limits .horizon))
 
 -- the nodes below `turns` were settled in turn, and a heeded difference fails
 pub record Halted (S : Sheet) (graph differences : List ℕ) (limits : R.Header) (first next kept steps levels steps' levels' : List ℕ) (whole : Bool) : Type 0 where
@@ -47,7 +47,7 @@ pub record Halted (S : Sheet) (graph differences : List ℕ) (limits : R.Header)
 
 -- late: nothing is legal within the horizon. stopped: a part of the nodes was settled. whole: every node was
 abbrev pub Passed : (S : Sheet) (graph differences : List ℕ) (limits : R.Header) (first next kept steps levels steps' levels' : List ℕ) (whole : Bool) → Course → Type 0
-Passed S graph differences limits first next kept steps levels steps' levels' whole Is.Late = NoneLegal S
+Passed S graph differences limits first next kept steps levels steps' levels' whole Is.Late = NoneLegal S (limits .horizon)
 Passed S graph differences limits first next kept steps levels steps' levels' whole Is.Stopped =
     Halted S graph differences limits first next kept steps levels steps' levels' whole
 Passed S graph differences limits first next kept steps levels steps' levels' whole Is.Whole =

@@ -52,16 +52,16 @@ Thawed differences first steps heeded heeded' m =
 pub record Sweepable (S : Sheet) (graph differences : List ℕ) (limits : R.Header) (first next steps levels : List ℕ) : Type 0 where
   pub given : Given S graph differences limits
   pub heeding : Heeding differences (limits .differences) first next
-  pub timed : Timed S steps levels
+  pub timed : Timed S (limits .horizon) steps levels
   pub pass : Pass S (labelIn steps levels) 0
 
--- v has a label that pushes it, or nothing is legal within the horizon
-abbrev pub PushEnds : (S : Sheet) (first steps levels steps' levels' : List ℕ) (v : ℕ) → Bool → Type 0
-PushEnds S first steps levels steps' levels' v r =
-    Ends r (Timed S steps' levels'
-    × (b : Label) × Pushes S (Heeded first) (labelIn steps levels) v b × Raised S (labelIn steps levels) v b (labelIn steps' levels')) (NoneLegal S)
+-- v has a label that pushes it, or nothing is legal within H
+abbrev pub PushEnds : (S : Sheet) (H : ℕ) (first steps levels steps' levels' : List ℕ) (v : ℕ) → Bool → Type 0
+PushEnds S H first steps levels steps' levels' v r =
+    Ends r (Timed S H steps' levels'
+    × (b : Label) × Pushes S (Heeded first) (labelIn steps levels) v b × Raised S (labelIn steps levels) v b (labelIn steps' levels')) (NoneLegal S H)
 
--- every node was pushed in turn, or nothing is legal within the horizon
-abbrev pub SweepEnds : (S : Sheet) (first steps levels steps' levels' : List ℕ) → Bool → Type 0
-SweepEnds S first steps levels steps' levels' r =
-    Ends r (Timed S steps' levels' × Sweeping S (Heeded first) (labelIn steps levels) 0 (labelIn steps' levels')) (NoneLegal S)
+-- every node was pushed in turn, or nothing is legal within H
+abbrev pub SweepEnds : (S : Sheet) (H : ℕ) (first steps levels steps' levels' : List ℕ) → Bool → Type 0
+SweepEnds S H first steps levels steps' levels' r =
+    Ends r (Timed S H steps' levels' × Sweeping S (Heeded first) (labelIn steps levels) 0 (labelIn steps' levels')) (NoneLegal S H)

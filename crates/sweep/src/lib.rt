@@ -154,7 +154,7 @@ pub fn push(
     requires { ⌜ ((S : Sheet) × Sweepable S (now graph) (now differences) limits (now first) (now next) (now steps) (now levels)) ⌝ }
     requires { ⌜ v < limits .nodes ⌝ }
     ensures { λ r. ⌜ ((S : Sheet) → Sweepable S (now (graph .entry)) (now (differences .entry)) limits (now (first .entry)) (now (next .entry)) (now (steps .entry)) (now (levels .entry)) → v < limits .nodes
-        → PushEnds S (now (first .entry)) (now (steps .entry)) (now (levels .entry)) (now (steps .exit)) (now (levels .exit)) v r) ⌝ }
+        → PushEnds S (limits .horizon) (now (first .entry)) (now (steps .entry)) (now (levels .entry)) (now (steps .exit)) (now (levels .exit)) v r) ⌝ }
 {
     let own = step_of(steps, v);
     let asked = after_differences(differences, first, next, steps, limits.differences, v, own);
@@ -177,7 +177,7 @@ pub fn sweep(
 ) -> bool
     requires { ⌜ ((S : Sheet) × Sweepable S (now graph) (now differences) limits (now first) (now next) (now steps) (now levels)) ⌝ }
     ensures { λ r. ⌜ ((S : Sheet) → Sweepable S (now (graph .entry)) (now (differences .entry)) limits (now (first .entry)) (now (next .entry)) (now (steps .entry)) (now (levels .entry))
-        → SweepEnds S (now (first .entry)) (now (steps .entry)) (now (levels .entry)) (now (steps .exit)) (now (levels .exit)) r) ⌝ }
+        → SweepEnds S (limits .horizon) (now (first .entry)) (now (steps .entry)) (now (levels .entry)) (now (steps .exit)) (now (levels .exit)) r) ⌝ }
 {
     let mut v = limits.nodes;
     while v > 0 {

@@ -19,7 +19,7 @@ abbrev Inv-loop : tie.InvT-loop
 Inv-loop graph differences limits first next steps₀ levels₀ v₀ steps levels v =
     (v ≤ limits .nodes)
     × ((S : Sheet) → Sweepable S graph differences limits first next steps₀ levels₀
-    → Timed S steps levels × Sweeping S (Heeded first) (labelIn steps₀ levels₀) v (labelIn steps levels))
+    → Timed S (limits .horizon) steps levels × Sweeping S (Heeded first) (labelIn steps₀ levels₀) v (labelIn steps levels))
 
 abbrev μ-loop : tie.MeasureT-loop
 μ-loop graph differences limits first next steps₀ levels₀ v₀ steps levels v = v
