@@ -3,7 +3,7 @@ use Prim.Native.Nat.{ℕ, zero, suc, _+_, _-_, _*_, _≤_, _<_, max}
 use mathlib.Core.Path.{_≡_, refl, sym, subst, ap, _∙_}
 use mathlib.Core.Bool.{Bool, true, false}
 use mathlib.Core.List.{List, [], _∷_, _++_, foldr}
-use native.Mathlib.Nat.{mul-le-mul-right, not-suc-le-zero}
+use native.Mathlib.Nat.{not-suc-le-zero}
 use native.Mathlib.Numerals.{add-one}
 use native.Mathlib.Omega.{arith}
 use native.Mathlib.Decide.{ℕ-discrete}
@@ -19,9 +19,9 @@ use Rattle.maps.specs.WellFormed.{WellDifference}
 use Rattle.maps.specs.Sheet.{Sheet, Difference, node, size, latency, clockToQ}
 use Rattle.maps.specs.Cut.{reads}
 use Rattle.maps.specs.Legal.{readyOf, Least, latencyOfAll, NoneLegal}
-use Rattle.maps.specs.Least.{at, leastLabels, late, least}
+use Rattle.maps.specs.Least.{at, leastWithin, late, least}
 use Rattle.maps.specs.Outcome.{cutless}
-use Rattle.maps.proofs.Over.{total, total-mono, length-over, getD-over}
+use Rattle.maps.proofs.Over.{total, total-mono, total-longer, length-over, getD-over}
 use Rattle.maps.proofs.Member.{zeros-at, All-at, All-of, All-ids, All-get, mem-in, mem-out, index-mem, below-out}
 use Rattle.maps.proofs.Fix.{label-path, is-least, is-late}
 use Rattle.maps.proofs.Planned.{delays, operands-below, least-right}
@@ -37,8 +37,8 @@ use Rattle.relax.specs.Hold.{Held, at-zero, by-operand, by-difference}
 use Rattle.relax.proofs.Closed.{Closed, well-closed, inside}
 use Rattle.relax.proofs.Guard.{legal-node, legal-diffs, ok-legal}
 use Rattle.relax.proofs.Forced.{ok-same}
-use Rattle.relax.proofs.Held.{well-climb, held-bound}
-use Rattle.relax.proofs.Passes.{pass-start, pass-again, pass-least, pass-floats, stepsOf, steps-bound}
+use Rattle.relax.proofs.Held.{climbs, well-climb, held-sum}
+use Rattle.relax.proofs.Passes.{pass-start, pass-again, pass-least, pass-floats, stepsOf}
 use Rattle.relax.proofs.Loop.{passing-pass, passing-grows}
 use Rattle.relax.proofs.Sweeps.{sweep-moves}
 use Rattle.bound.specs.Lookup.{labelIn, labelsIn, Linked, Heeded}
@@ -53,7 +53,7 @@ use Rattle.pass.specs.declared.Course.{Course}
 use Rattle.schedule.specs.declared.labels.Turn.{Turn}
 use Rattle.schedule.specs.declared.labels.Turn.the-variants as Is
 use Rattle.sweep.specs.Sweep.{AllHold, SomeFails, Sweepable, SweepEnds}
-use Rattle.schedule.specs.Round.{First, TurnEnds, was-late, was-stopped, was-last, goes-on, Heeds, Relaxed, stepsIn, stepsMost, heldMost, roundsMost}
+use Rattle.schedule.specs.Round.{First, TurnEnds, was-late, was-stopped, was-last, goes-on, Heeds, Relaxed, stepsIn, climbsIn, heldMost, roundsMost}
 
 -- the first labels, one node after the other: none yet, and one more
 pub first-none : {graph steps levels : List ℕ} {horizon : ℕ} → steps ≡ replicate 256 0 → levels ≡ replicate 256 0 → First graph steps levels 0 horizon
@@ -88,6 +88,15 @@ unfolding stepsIn
 steps-sum zero steps = refl
 steps-sum (suc n) steps = ap (λ (h : ℕ). h + getD steps n 0) (steps-sum n steps)
 
+-- so are the climbs
+climbs-sum : (n : ℕ) → climbsIn n ≡ climbs weightMost n
+unfolding climbsIn
+climbs-sum zero = refl
+climbs-sum (suc n) = ap (λ (h : ℕ). h + n * weightMost) (climbs-sum n)
+
+climbs-greatest : climbs weightMost 256 ≡ 2139062400
+climbs-greatest = refl
+
 module _ {S : Sheet} {graph differences : List ℕ} {limits : R.Header} (g : Given S graph differences limits) where
   closed : Closed S
   closed = well-closed S (g .well)
@@ -95,19 +104,10 @@ module _ {S : Sheet} {graph differences : List ℕ} {limits : R.Header} (g : Giv
   steps-is : (steps levels : List ℕ) → stepsIn (limits .nodes) steps ≡ stepsOf S (labelIn steps levels)
   steps-is steps levels = ap (λ (n : ℕ). stepsIn n steps) (g .nodes) ∙ steps-sum (size S) steps
 
-  most-is : stepsMost limits ≡ size S * S .horizon
-  unfolding stepsMost
-  most-is = rw (g .nodes, g .horizon)
-
-  -- which is a number of the code's, twice over: so is 256 times the greatest H
-  most-fits : stepsMost limits < 2147483647
+  -- what held nodes can have together is a number of the code's, twice over: 0 + 1 + .. + 255 times 65,535 is below 2^31
+  most-fits : heldMost limits < 2147483647
   most-fits =
-      let y : size S * S .horizon ≤ 256 * S .horizon = mul-le-mul-right (S .horizon) (g .well .size .most) in
-      omega (arith, most-is, g .well .horizon .most)
-
-  held-is : heldMost limits ≡ size S * ((size S - 1) * weightMost)
-  unfolding heldMost
-  held-is = rw (g .nodes)
+      omega (arith, climbs-sum (limits .nodes), total-longer (λ k. k * weightMost) (limits .nodes) 256 (omega (arith, g .nodes, g .well .size .most)), climbs-greatest)
 
   -- the start
   pub first-going : {first next kept steps levels : List ℕ} → Linked differences (limits .differences) first next → AllKept S kept
@@ -122,7 +122,7 @@ module _ {S : Sheet} {graph differences : List ℕ} {limits : R.Header} (g : Giv
           levels-wide = f .levels-wide;
           ends = λ v l.
               let k : v < limits .nodes = omega (arith, g .nodes) in
-              omega (arith, f .steps-zero v, f .ends v k, latency-is g v k, g .horizon);
+              omega (arith, f .steps-zero v, f .ends v k, latency-is g v k);
         };
       }
 
@@ -131,8 +131,8 @@ module _ {S : Sheet} {graph differences : List ℕ} {limits : R.Header} (g : Giv
       pass-start S (delays S (g .well)) (labelIn steps levels) (λ v l.
       let k : v < limits .nodes = omega (arith, g .nodes) in label-path (f .steps-zero v) (f .levels-delay v k ∙ delay-is g v k))
 
-  pub first-late : (v : ℕ) → v < limits .nodes → limits .horizon < latencyIn graph v → NoneLegal S
-  first-late v l h M legal = omega (arith, legal .nodes v (node-in g v l .0) .ends, latency-is g v l, g .horizon)
+  pub first-late : (v : ℕ) → v < limits .nodes → limits .horizon < latencyIn graph v → NoneLegal S (limits .horizon)
+  first-late v l h M legal = omega (arith, legal .nodes v (node-in g v l .0) .ends, latency-is g v l)
 
   -- the held set over the tables is the sheet's
   module _ (steps levels : List ℕ) where
@@ -193,21 +193,20 @@ module _ {S : Sheet} {graph differences : List ℕ} {limits : R.Header} (g : Giv
   -- where the tests and the bounds of a round lead
   module _ (steps levels : List ℕ) where
     -- after a pass a node floats
-    floats-none : Pass S (labelIn steps levels) (size S) → (v : ℕ) → v < limits .nodes → (HeldAt steps levels v → ⊥) → NoneLegal S
+    floats-none : Pass S (labelIn steps levels) (size S) → (v : ℕ) → v < limits .nodes → (HeldAt steps levels v → ⊥) → NoneLegal S (limits .horizon)
     floats-none p v l n M legal =
-        pass-floats S closed (labelIn steps levels) p v (node-in g v l .0) (λ h. n (in-held steps levels v h)) M (S .horizon) legal
+        pass-floats S closed (labelIn steps levels) p v (node-in g v l .0) (λ h. n (in-held steps levels v h)) M (limits .horizon) legal
 
     -- none does: the steps are no further than held nodes can be, whatever the horizon
     held-most : ((v : ℕ) → v < limits .nodes → HeldAt steps levels v) → stepsIn (limits .nodes) steps ≤ heldMost limits
     held-most all =
-        let b = steps-bound S (labelIn steps levels) ((size S - 1) * weightMost)
-        (held-bound S closed (labelIn steps levels) weightMost (well-climb S (g .well)) (λ v l. held-in steps levels v (all v (omega (arith, g .nodes))))) in
-        omega (arith, steps-is steps levels, held-is)
-
-    timed-most : Timed S steps levels → stepsIn (limits .nodes) steps ≤ stepsMost limits
-    timed-most timed =
-        let b = steps-bound S (labelIn steps levels) (S .horizon) (λ v l. omega (arith, timed .ends v l)) in
-        omega (arith, steps-is steps levels, most-is)
+        omega (
+          arith,
+          steps-is steps levels,
+          held-sum S closed (labelIn steps levels) weightMost (well-climb S (g .well)) (λ v l. held-in steps levels v (all v (omega (arith, g .nodes)))),
+          climbs-sum (size S),
+          ap climbsIn (g .nodes),
+        )
 
     -- a pass lets no step fall
     pass-most : (steps₀ levels₀ : List ℕ) → Pass S (labelIn steps₀ levels₀) 0 → (k : ℕ) → Passing S (labelIn steps₀ levels₀) k (labelIn steps levels)
@@ -218,10 +217,10 @@ module _ {S : Sheet} {graph differences : List ℕ} {limits : R.Header} (g : Giv
         omega (arith, steps-is steps₀ levels₀, steps-is steps levels)
 
     -- after a pass every difference holds
-    all-least : {first next : List ℕ} → Linked differences (limits .differences) first next → Timed S steps levels → Pass S (labelIn steps levels) (size S)
-        → AllHold differences first steps (limits .differences) → Least S (S .horizon) (labelIn steps levels)
+    all-least : {first next : List ℕ} → Linked differences (limits .differences) first next → Timed S (limits .horizon) steps levels → Pass S (labelIn steps levels) (size S)
+        → AllHold differences first steps (limits .differences) → Least S (limits .horizon) (labelIn steps levels)
     all-least {first} linked timed p h =
-        pass-least S closed (labelIn steps levels) p (S .horizon)
+        pass-least S closed (labelIn steps levels) p (limits .horizon)
         (λ v l. record { into = λ d m e. All-at (Kept (λ u. getD steps u 0)) (S .differences) all m }) (timed .ends)
       where
         each : (i : ℕ) → i < limits .differences → HoldsAt differences steps i
@@ -283,7 +282,7 @@ module _ (limits : R.Header) (h p k rounds next : ℕ) (few : Few limits h round
   few-more : (rounds + 1 ≡ next → ⊥) → Few limits k (rounds + 1) next
   few-more n = record { risen = omega (arith, few .risen); early = omega (arith, few .early, n); near = few .near; fits = few .fits }
 
-  few-tested : rounds + 1 ≡ next → p ≤ heldMost limits → p < 2147483647 → (later : ℕ) → next < later → later ≤ next + next → Few limits k (rounds + 1) later
+  few-tested : rounds + 1 ≡ next → p ≤ heldMost limits → heldMost limits < 2147483647 → (later : ℕ) → next < later → later ≤ next + next → Few limits k (rounds + 1) later
   few-tested e b s later l m =
       record { risen = omega (arith, few .risen); early = omega arith; near = omega (arith, few .risen); fits = omega (arith, few .risen) }
 
@@ -297,8 +296,8 @@ pub record GoesOn (S : Sheet) (graph differences : List ℕ) (limits : R.Header)
 
 -- least: the labels are the least legal ones. late: nothing is legal within the horizon. again: they go on
 abbrev pub RoundEnds : (S : Sheet) (graph differences : List ℕ) (limits : R.Header) (first heeded next kept steps steps' levels' : List ℕ) (whole : Bool) → Turn → Type 0
-RoundEnds S graph differences limits first heeded next kept steps steps' levels' whole Is.Least = Least S (S .horizon) (labelIn steps' levels')
-RoundEnds S graph differences limits first heeded next kept steps steps' levels' whole Is.Late = NoneLegal S
+RoundEnds S graph differences limits first heeded next kept steps steps' levels' whole Is.Least = Least S (limits .horizon) (labelIn steps' levels')
+RoundEnds S graph differences limits first heeded next kept steps steps' levels' whole Is.Late = NoneLegal S (limits .horizon)
 RoundEnds S graph differences limits first heeded next kept steps steps' levels' whole Is.Again =
     GoesOn S graph differences limits first heeded next kept steps steps' levels' whole
 
@@ -336,7 +335,7 @@ module _ {S : Sheet} {graph differences : List ℕ} {limits : R.Header} (g : Giv
 -- A round that goes on: the labels after its pass, then the differences that are heeded, then the sweep.
 module _ {S : Sheet} {graph differences : List ℕ} {limits : R.Header} {first heeded₀ next kept steps₀ steps levels : List ℕ} {whole : Bool}
     (x : GoesOn S graph differences limits first heeded₀ next kept steps₀ steps levels whole) where
-  pub round-floats : whole ≡ true → (v : ℕ) → v < limits .nodes → (HeldIn graph differences steps (limits .nodes) (limits .differences) v → ⊥) → NoneLegal S
+  pub round-floats : whole ≡ true → (v : ℕ) → v < limits .nodes → (HeldIn graph differences steps (limits .nodes) (limits .differences) v → ⊥) → NoneLegal S (limits .horizon)
   round-floats w = floats-none (x .going .given) steps levels (x .settled w)
 
   module _ {heeded : List ℕ} {test : Bool} (y : Heeds graph differences limits next steps heeded test) where
@@ -349,7 +348,7 @@ module _ {S : Sheet} {graph differences : List ℕ} {limits : R.Header} {first h
           pass = x .pass;
         }
 
-    module _ (steps′ levels′ : List ℕ) (z : SweepEnds S heeded steps levels steps′ levels′ true) where
+    module _ (steps′ levels′ : List ℕ) (z : SweepEnds S (limits .horizon) heeded steps levels steps′ levels′ true) where
       pub round-going : Going S graph differences limits heeded next kept steps′ levels′ × Pass S (labelIn steps′ levels′) 0
       round-going = (record { given = x .going .given; heeding = y .heeding; allKept = x .going .allKept; timed = z .0 }, z .1 .pass)
 
@@ -361,13 +360,13 @@ module _ {S : Sheet} {graph differences : List ℕ} {limits : R.Header} {first h
         round-more = few-more limits _ (stepsIn (limits .nodes) steps) _ rounds due few (x .grown) moved
 
         -- a test is not so late that twice as many rounds are no number of the code's
-        pub round-fits : rounds + 1 ≡ due → due < 2147483648
-        round-fits e = omega (arith, few .risen, x .grown, timed-most (x .going .given) steps levels (x .going .timed), most-fits (x .going .given))
+        pub round-fits : rounds + 1 ≡ due → test ≡ true → due < 2147483648
+        round-fits e t = omega (arith, few .risen, x .grown, held-most (x .going .given) steps levels (y .held t), most-fits (x .going .given))
 
         pub round-tested : rounds + 1 ≡ due → test ≡ true → (later : ℕ) → due < later → later ≤ due + due → Few limits (stepsIn (limits .nodes) steps′) (rounds + 1) later
         round-tested e t =
             few-tested limits _ (stepsIn (limits .nodes) steps) _ rounds due few (x .grown) moved e (held-most (x .going .given) steps levels (y .held t))
-            (omega (arith, timed-most (x .going .given) steps levels (x .going .timed), most-fits (x .going .given)))
+            (most-fits (x .going .given))
 
 -- the least labels are those of the tables, node by node
 least-same : (S : Sheet) → Closed S → (H : ℕ) (L R : ℕ → Label) → ((v : ℕ) → v < size S → R v ≡ L v) → Least S H L → Least S H R
@@ -390,17 +389,17 @@ least-same S c H L R e h =
 
 -- what the end of all rounds says of the defined labels
 module _ {S : Sheet} {graph differences : List ℕ} {limits : R.Header} (g : Given S graph differences limits) (cuts : cutless S ≡ []) where
-  labels-least : (steps levels : List ℕ) → Least S (S .horizon) (labelIn steps levels) → leastLabels S ≡ least (labelsIn (limits .nodes) steps levels)
+  labels-least : (steps levels : List ℕ) → Least S (limits .horizon) (labelIn steps levels) → leastWithin S (limits .horizon) ≡ least (labelsIn (limits .nodes) steps levels)
   labels-least steps levels h =
-      is-least S (least-right S (g .well) cuts) (labelsIn (limits .nodes) steps levels) (length-over (labelIn steps levels) (label 0 0) (limits .nodes) ∙ g .nodes)
-      (least-same S (closed g) (S .horizon) (labelIn steps levels) (at (labelsIn (limits .nodes) steps levels))
+      is-least S (limits .horizon) (least-right S (g .well) cuts (limits .horizon)) (labelsIn (limits .nodes) steps levels) (length-over (labelIn steps levels) (label 0 0) (limits .nodes) ∙ g .nodes)
+      (least-same S (closed g) (limits .horizon) (labelIn steps levels) (at (labelsIn (limits .nodes) steps levels))
       (λ v l. getD-over (labelIn steps levels) (label 0 0) (limits .nodes) v (omega (arith, g .nodes))) h)
 
-  pub labels-late : NoneLegal S → leastLabels S ≡ late
-  labels-late h = is-late S (least-right S (g .well) cuts) h
+  pub labels-late : NoneLegal S (limits .horizon) → leastWithin S (limits .horizon) ≡ late
+  labels-late h = is-late S (limits .horizon) (least-right S (g .well) cuts (limits .horizon)) h
 
-  pub labels-end : (steps levels : List ℕ) (r : Bool) → Relaxed S steps levels r
-      → Ends r (leastLabels S ≡ least (labelsIn (limits .nodes) steps levels)) (leastLabels S ≡ late)
+  pub labels-end : (steps levels : List ℕ) (r : Bool) → Relaxed S (limits .horizon) steps levels r
+      → Ends r (leastWithin S (limits .horizon) ≡ least (labelsIn (limits .nodes) steps levels)) (leastWithin S (limits .horizon) ≡ late)
   labels-end steps levels true h = labels-least steps levels h
   labels-end steps levels false h = labels-late h
 

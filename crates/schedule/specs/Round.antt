@@ -1,5 +1,5 @@
 -- What the start, the turn after a pass, what is heeded then, and all rounds answer.
-use Prim.Native.Nat.{ℕ, suc, zero, _+_, _-_, _*_, _≤_, _<_}
+use Prim.Native.Nat.{ℕ, suc, zero, _+_, _*_, _≤_, _<_}
 use mathlib.Core.Path.{_≡_}
 use mathlib.Core.Bool.{Bool, true}
 use mathlib.Core.List.{List}
@@ -35,13 +35,13 @@ unfoldable pub stepsIn : (n : ℕ) (steps : List ℕ) → ℕ
 stepsIn zero steps = 0
 stepsIn (suc n) steps = stepsIn n steps + getD steps n 0
 
--- the most that it can be within the horizon
-unfoldable pub stepsMost : R.Header → ℕ
-stepsMost limits = limits .nodes * limits .horizon
+-- the most that it can be where n nodes are held, whatever the horizon: 0 + 1 + .. + (n - 1) times the greatest weight
+unfoldable pub climbsIn : (n : ℕ) → ℕ
+climbsIn zero = 0
+climbsIn (suc n) = climbsIn n + n * weightMost
 
--- the most that it can be where every node is held, whatever the horizon
-unfoldable pub heldMost : R.Header → ℕ
-heldMost limits = limits .nodes * ((limits .nodes - 1) * weightMost)
+abbrev pub heldMost : R.Header → ℕ
+heldMost limits = climbsIn (limits .nodes)
 
 -- the most rounds that there can be, whatever the horizon
 abbrev pub roundsMost : R.Header → ℕ
@@ -66,6 +66,6 @@ HeedEnds graph differences limits next steps heeded test r =
     Ends r (Heeds graph differences limits next steps heeded test)
     ((v : ℕ) × (v < limits .nodes) × (HeldIn graph differences steps (limits .nodes) (limits .differences) v → ⊥) × (test ≡ true))
 
--- the labels are the least legal ones, or nothing is legal within the horizon
-abbrev pub Relaxed : (S : Sheet) (steps levels : List ℕ) → Bool → Type 0
-Relaxed S steps levels r = Ends r (Least S (S .horizon) (labelIn steps levels)) (NoneLegal S)
+-- the labels are the least legal ones, or nothing is legal within H
+abbrev pub Relaxed : (S : Sheet) (H : ℕ) (steps levels : List ℕ) → Bool → Type 0
+Relaxed S H steps levels r = Ends r (Least S H (labelIn steps levels)) (NoneLegal S H)

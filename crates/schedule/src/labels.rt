@@ -7,7 +7,7 @@ ghost use Prim.Native.Nat.{ℕ, _+_, _<_, _≤_};
 ghost use lib.Dec.{eqb};
 ghost use Rattle.maps.specs.Sheet.{Sheet, size};
 ghost use Rattle.maps.specs.Legal.{latencyOfAll};
-ghost use Rattle.maps.specs.Least.{at, leastLabels, late, least};
+ghost use Rattle.maps.specs.Least.{at, leastWithin, late, least};
 ghost use Rattle.maps.specs.Outcome.{cutless};
 ghost use Rattle.rows.specs.Table.{Tabled};
 ghost use Rattle.rows.specs.Cells.{Ends};
@@ -148,7 +148,7 @@ pub fn heed(
     heeded: &mut [u32; 256],
     mode: Mode,
 ) -> bool
-    requires { ⌜ ((S : Sheet) × (levels : List ℕ) × Given S (now graph) (now differences) limits × Timed S (now steps) levels) ⌝ }
+    requires { ⌜ ((S : Sheet) × (levels : List ℕ) × Given S (now graph) (now differences) limits × Timed S (limits .horizon) (now steps) levels) ⌝ }
     requires { ⌜ Linked (now differences) (limits .differences) (now first) (now next) ⌝ }
     requires { ⌜ Heeding (now differences) (limits .differences) (now heeded) (now next) ⌝ }
     requires { ⌜ SomeFails (now differences) (now first) (now steps) (limits .differences) ⌝ }
@@ -187,7 +187,7 @@ pub fn relax(
 ) -> bool
     requires { ⌜ Linked (now differences) (limits .differences) (now first) (now next) ⌝ }
     requires { ⌜ Underway (now graph) (now differences) limits (now first) (now next) (now kept) (now steps) (now levels) 0 ⌝ }
-    ensures { λ r. ⌜ Onward (now (graph .entry)) (now (differences .entry)) limits (now (first .entry)) (now (next .entry)) (now (kept .entry)) (now (steps .entry)) (now (levels .entry)) 0 (λ S. Relaxed S (now (steps .exit)) (now (levels .exit)) r) ⌝ }
+    ensures { λ r. ⌜ Onward (now (graph .entry)) (now (differences .entry)) limits (now (first .entry)) (now (next .entry)) (now (kept .entry)) (now (steps .entry)) (now (levels .entry)) 0 (λ S. Relaxed S (limits .horizon) (now (steps .exit)) (now (levels .exit)) r) ⌝ }
 {
     let mut heeded = *first;
     let mut since = *steps;
@@ -235,7 +235,8 @@ pub fn relax(
     }
 }
 
-// Writes the least legal labels within the horizon; false where no labelling is legal within it. `kept` has a fitting cut of each logic node.
+// Writes the least legal labels within the horizon of the limits; false where no labelling is legal within it. `kept` has a fitting cut of each
+// logic node.
 pub fn least_labels(
     graph: &Graph,
     differences: &Differences,
@@ -246,7 +247,7 @@ pub fn least_labels(
 ) -> bool
     requires { ⌜ ((S : Sheet) × Given S (now graph) (now differences) limits × AllKept S (now kept)) ⌝ }
     ensures { λ r. ⌜ ((S : Sheet) → Given S (now (graph .entry)) (now (differences .entry)) limits → AllKept S (now (kept .entry)) → cutless S ≡ []
-        → Ends r (leastLabels S ≡ least (labelsIn (limits .nodes) (now (steps .exit)) (now (levels .exit)))) (leastLabels S ≡ late)) ⌝ }
+        → Ends r (leastWithin S (limits .horizon) ≡ least (labelsIn (limits .nodes) (now (steps .exit)) (now (levels .exit)))) (leastWithin S (limits .horizon) ≡ late)) ⌝ }
 {
     let mut first = [0u32; 256];
     let mut next = [0u32; 1024];

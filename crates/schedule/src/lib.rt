@@ -1,4 +1,4 @@
-// The least legal labels of a sheet within its horizon, or that no labelling is legal within it.
+// The least legal labels of a sheet within a horizon, or that no labelling is legal within it.
 mod labels;
 
 pub use labels::latency;

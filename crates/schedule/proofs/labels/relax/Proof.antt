@@ -144,7 +144,7 @@ next-due-requires c κs =
     let x = rw (t .enum-told3 .given .1) at (round-ends (i .0 .given) (s .pre .0) (l .loop .heeded) (h .pass .last .1 .1 .1 .1 .1 .0) (l .loop .steps) (l .loop .levels) (h .pass .last .1 .1 .1 .1 .1 .1 .0) (h .pass .last .1 .1 .1 .1 .1 .1 .1 .0) (k .mode-of .result .whole) (i .1) (e .turn-after .ensures) (h .pass .ensures (p .0) (i .0) (i .1))) in
     let y = rw (not-false (f .heed .result) (q .if1 .left)) at (f .heed .ensures) in
     let v = rw (not-false (w .sweep .result) (z .if2 .left)) at (w .sweep .ensures (p .0) (round-sweepable x y)) in
-    let n = round-fits x y _ _ v (l .loop .rounds) (l .loop .due) (l .loop .inv .1) (eqb-true _ _ (sym (k .mode-of .ensures .0) ∙ c .if3 .taken)) in
+    let n = round-fits x y _ _ v (l .loop .rounds) (l .loop .due) (l .loop .inv .1) (eqb-true _ _ (sym (k .mode-of .ensures .0) ∙ c .if3 .taken)) (c .if3 .taken) in
     (omega (arith, l .loop .inv .1 .early), n)
 
 loop-less : tie.Need-loop-less Inv-loop μ-loop
