@@ -402,33 +402,3 @@ module _ {S : Sheet} {graph differences : List ℕ} {limits : R.Header} (g : Giv
       → Ends r (leastWithin S (limits .horizon) ≡ least (labelsIn (limits .nodes) steps levels)) (leastWithin S (limits .horizon) ≡ late)
   labels-end steps levels true h = labels-least steps levels h
   labels-end steps levels false h = labels-late h
-
--- the greatest of x 0, .. x (n - 1)
-abbrev pub most : (ℕ → ℕ) → ℕ → ℕ
-most x n = foldr (λ v s. max (x v) s) 0 (below n)
-
-pub most-more : (x : ℕ → ℕ) (n : ℕ) → most x (n + 1) ≡ max (most x n) (x n)
-most-more x n = rw (add-one n) (go (below n))
-  where
-    go : (vs : List ℕ) → foldr (λ v s. max (x v) s) 0 (vs ++ (n ∷ [])) ≡ max (foldr (λ v s. max (x v) s) 0 vs) (x n)
-    go [] = omega arith
-    go (v ∷ vs) = omega (arith, go vs)
-
-most-same : (x y : ℕ → ℕ) (vs : List ℕ) → All (λ v. x v ≡ y v) vs → foldr (λ v s. max (x v) s) 0 vs ≡ foldr (λ v s. max (y v) s) 0 vs
-most-same x y [] h = refl
-most-same x y (v ∷ vs) h = omega (arith, most-same x y vs (h .1), h .0)
-
-pub latency-is-most : (S : Sheet) (graph steps levels : List ℕ) (n : ℕ) → n ≤ 256 → Tabled S graph → n ≡ size S
-    → most (λ v. getD steps v 0 + latencyIn graph v) n ≡ latencyOfAll S (at (labelsIn n steps levels))
-latency-is-most S graph steps levels n few t e =
-    most-same (λ v. getD steps v 0 + latencyIn graph v) (λ v. readyOf S (at (labelsIn n steps levels)) v .step) (below n)
-    (All-of _ (below n) (λ v m. each v (below-out n v m))) ∙ ap (λ (k : ℕ). most (λ v. readyOf S (at (labelsIn n steps levels)) v .step) k) e
-  where
-    each : (v : ℕ) → v < n → getD steps v 0 + latencyIn graph v ≡ readyOf S (at (labelsIn n steps levels)) v .step
-    each v l =
-        omega (
-          arith,
-          ready-step (latency S v) (clockToQ S v) (at (labelsIn n steps levels) v),
-          ap (λ (a : Label). a .step) (getD-over (labelIn steps levels) (label 0 0) n v l),
-          t .latencies v (omega arith),
-        )

@@ -266,18 +266,3 @@ pub fn least_labels(
         levels,
     )
 }
-
-// The greatest step among the ready labels of n nodes.
-pub fn latency(graph: &Graph, steps: &Steps, n: u32) -> Step
-    requires { ⌜ n ≤ 256 ⌝ }
-    requires { ⌜ ((u : ℕ) → u < n → Soon (now graph) (now steps) u) ⌝ }
-    ensures { λ r. ⌜ ((S : Sheet) (levels : List ℕ) → Tabled S (now (graph .entry)) → n ≡ size S → r .0 ≡ latencyOfAll S (at (labelsIn n (now (steps .entry)) levels))) ⌝ }
-{
-    let mut most = Step(0);
-    let mut u: u32 = 0;
-    while u < n {
-        most = most.later(ready_step(graph, steps, u));
-        u += 1;
-    }
-    most
-}

@@ -1,16 +1,17 @@
--- `labels::latency` meets its contract. The loop's invariant: `m` is the greatest ready step of the nodes below u.
+-- `timing::latency` meets its contract. The loop's invariant: `m` is the greatest ready step of the nodes below u.
 use borrow.Author.Needs.{needs}
 use Prim.Native.Nat.{ℕ, _+_, _-_, _≤_, max}
 use mathlib.Core.Path.{_≡_, sym, ap, _∙_}
 use native.Mathlib.Omega.{arith}
 use lib.ListN.{getD}
+use Rattle.maps.specs.Lists.{below, greatest}
 use Rattle.rows.specs.Table.{latencyIn}
-use Rattle.schedule.proofs.Rounds.{most, most-more, latency-is-most}
-use Rattle.schedule.proofs.labels.latency.Statement.{statement}
-use Rattle.schedule.proofs.labels.latency.Tie as tie
+use Rattle.timing.proofs.Ready.{greatest-more, latency-is-greatest}
+use Rattle.timing.proofs.latency.Statement.{statement}
+use Rattle.timing.proofs.latency.Tie as tie
 
 abbrev Inv-loop : tie.InvT-loop
-Inv-loop graph steps n most₀ u₀ m u = (u ≤ n) × (m .0 ≡ most (λ v. getD steps v 0 + latencyIn graph v) u)
+Inv-loop graph steps n most₀ u₀ m u = (u ≤ n) × (m .0 ≡ greatest (λ v. getD steps v 0 + latencyIn graph v) (below u))
 
 abbrev μ-loop : tie.MeasureT-loop
 μ-loop graph steps n most₀ u₀ m u = n - u
@@ -29,7 +30,7 @@ loop-again c =
     let t = r .before .loop-test .taken in
     let x : ℕ → ℕ = λ u. getD (s .args .steps .now) u 0 + latencyIn (s .args .graph .now) u in (
       omega arith,
-      c .later .ensures ∙ ap (λ (m : ℕ). max m (r .ready-step .result .0)) (l .inv .1) ∙ ap (max (most x (l .u))) (r .ready-step .ensures) ∙ sym (most-more x (l .u)),
+      c .later .ensures ∙ ap (λ (m : ℕ). max m (r .ready-step .result .0)) (l .inv .1) ∙ ap (max (greatest x (below (l .u)))) (r .ready-step .ensures) ∙ sym (greatest-more x (l .u)),
     )
 
 returns : tie.Need-returns Inv-loop μ-loop
@@ -37,8 +38,8 @@ returns c S levels tabled e =
     let l = c .before .loop in
     let s = c .before .before in
     let done : l .u ≡ s .args .n = omega (arith, c .loop-test .left, l .inv .0) in
-    l .inv .1 ∙ ap (most (λ u. getD (s .args .steps .now) u 0 + latencyIn (s .args .graph .now) u)) done
-    ∙ latency-is-most S (s .args .graph .now) (s .args .steps .now) levels (s .args .n) (s .pre .0) tabled e
+    l .inv .1 ∙ ap (λ (k : ℕ). greatest (λ u. getD (s .args .steps .now) u 0 + latencyIn (s .args .graph .now) u) (below k)) done
+    ∙ latency-is-greatest S (s .args .graph .now) (s .args .steps .now) levels (s .args .n) (s .pre .0) tabled e
 
 pub latency-spec : {M : Type 1} → statement M
 latency-spec =

@@ -1,0 +1,93 @@
+// When the least labels are ready: the labels of any horizon against the sheet's own, and their latency.
+ghost use mathlib.Core.Path.{_≡_};
+ghost use mathlib.Core.List.{List, []};
+ghost use Prim.Native.Nat.{ℕ, _<_, _≤_};
+ghost use Rattle.maps.specs.Sheet.{Sheet, size};
+ghost use Rattle.maps.specs.Legal.{latencyOfAll};
+ghost use Rattle.maps.specs.Least.{at, inTime};
+ghost use Rattle.maps.specs.Outcome.{cutless};
+ghost use Rattle.rows.specs.Table.{Tabled};
+ghost use Rattle.bound.specs.Lookup.{labelsIn, Soon};
+ghost use Rattle.bound.specs.Going.{Given, AllKept};
+ghost use Rattle.timing.specs.Timing.{Times};
+use bound::Levels;
+use bound::Steps;
+use bound::ready_step;
+use level::Cuts;
+use maps::Step;
+use rows::Differences;
+use rows::Graph;
+use rows::Header;
+use schedule::least_labels;
+
+// What the horizon comes to: nothing is legal under any, nothing within this one but within a larger one, or the least labels are in time.
+pub enum Timing {
+    Never,
+    Late,
+    InTime,
+}
+
+// No ready label of least labels is later, whatever the sheet: 255 differences of 65,535 one after the other, and a latency of 255.
+const FARTHEST: u32 = 16711680;
+
+// Whether the ready labels of n nodes are within the horizon.
+pub fn in_time(graph: &Graph, steps: &Steps, n: u32, horizon: u32) -> bool
+    requires { ⌜ n ≤ 256 ⌝ }
+    requires { ⌜ ((u : ℕ) → u < n → Soon (now graph) (now steps) u) ⌝ }
+    ensures { λ r. ⌜ ((S : Sheet) (levels : List ℕ) → Tabled S (now (graph .entry)) → n ≡ size S → inTime S (labelsIn n (now (steps .entry)) levels) horizon ≡ r) ⌝ }
+{
+    let mut u: u32 = 0;
+    while u < n {
+        let ready = ready_step(graph, steps, u);
+        if ready.0 > horizon {
+            return false;
+        }
+        u += 1;
+    }
+    true
+}
+
+// Writes the least legal labels of any horizon, unless there are none; whether they are within the horizon of the limits. `kept` has a fitting cut
+// of each logic node.
+pub fn time_labels(
+    graph: &Graph,
+    differences: &Differences,
+    limits: Header,
+    kept: &mut Cuts,
+    steps: &mut Steps,
+    levels: &mut Levels,
+) -> Timing
+    requires { ⌜ ((S : Sheet) × Given S (now graph) (now differences) limits × AllKept S (now kept) × (cutless S ≡ [])) ⌝ }
+    ensures { λ r. ⌜ ((S : Sheet) → Given S (now (graph .entry)) (now (differences .entry)) limits → AllKept S (now (kept .entry)) → cutless S ≡ []
+        → Times S (limits .horizon) (labelsIn (limits .nodes) (now (steps .exit)) (now (levels .exit))) r) ⌝ }
+{
+    let far = Header {
+        leaves: limits.leaves,
+        top: limits.top,
+        horizon: FARTHEST,
+        nodes: limits.nodes,
+        differences: limits.differences,
+    };
+    if !least_labels(graph, differences, far, kept, steps, levels) {
+        return Timing::Never;
+    }
+    if !in_time(graph, steps, limits.nodes, limits.horizon) {
+        return Timing::Late;
+    }
+    Timing::InTime
+}
+
+// The greatest step among the ready labels of n nodes.
+pub fn latency(graph: &Graph, steps: &Steps, n: u32) -> Step
+    requires { ⌜ n ≤ 256 ⌝ }
+    requires { ⌜ ((u : ℕ) → u < n → Soon (now graph) (now steps) u) ⌝ }
+    ensures { λ r. ⌜ ((S : Sheet) (levels : List ℕ) → Tabled S (now (graph .entry)) → n ≡ size S → r .0 ≡ latencyOfAll S (at (labelsIn n (now (steps .entry)) levels))) ⌝ }
+{
+    let mut most = Step(0);
+    let mut u: u32 = 0;
+    while u < n {
+        most = most.later(ready_step(graph, steps, u));
+        u += 1;
+    }
+    most
+}
