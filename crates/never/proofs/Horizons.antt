@@ -47,6 +47,12 @@ module _ (S : Sheet) (well : WellFormed S) (cuts : cutless S ≡ []) where
       go (none h) = E.never (λ G M ok. let r = some-reach M G ok in h (at (r .0)) (r .1 .legal))
       go (some {L} n h) = E.some n h
 
+  pub ever-least : (L : List Label) → leastEver S ≡ least L → Least S (reach S) (at L)
+  ever-least L e = go (subst (E.Ever S) e ever-right)
+    where
+      go : E.Ever S (least L) → Least S (reach S) (at L)
+      go (E.some n h) = h
+
   -- the labels of any horizon, against a horizon H
   module _ (L : List Label) (h : Least S (reach S) (at L)) (H : ℕ) where
     pub in-time : inTime S L H ≡ true → Least S H (at L)

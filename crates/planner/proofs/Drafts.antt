@@ -1,7 +1,7 @@
 -- What planning from the tables rests on, and the outcome that each way out comes to.
 use Prim.Native.Nat.{ℕ, _+_, _≤_, _<_}
-use mathlib.Core.Path.{_≡_, sym, ap, _∙_}
-use mathlib.Core.Bool.{true}
+use mathlib.Core.Path.{_≡_, sym, subst, ap, _∙_}
+use mathlib.Core.Bool.{Bool, true, false, cond}
 use mathlib.Core.List.{List, []}
 use native.Mathlib.Omega.{arith}
 use lib.ListN.{getD}
@@ -9,7 +9,7 @@ use Rattle.maps.specs.Label.{Label, earliest}
 use Rattle.maps.specs.Sheet.{Sheet, Kind, input, logic, box, node, size, latency, isLogic}
 use Rattle.maps.specs.Cut.{logicNode}
 use Rattle.maps.specs.Legal.{Carried, CarryingCut, Legal, latencyOfAll}
-use Rattle.maps.specs.Least.{at, least, leastLabels}
+use Rattle.maps.specs.Least.{at, inTime, least, leastEver}
 use Rattle.maps.specs.Plan.{plan}
 use Rattle.maps.specs.Read.{Header, sheet, refused, parse}
 use Rattle.maps.specs.Outcome.{refusal, within, timed, cutless, covered, parsed, outcome}
@@ -22,11 +22,12 @@ use Rattle.sheet.proofs.After.{Held}
 use Rattle.bound.specs.Lookup.{labelIn, labelsIn, Soon}
 use Rattle.bound.specs.Going.{Given, AllKept}
 use Rattle.level.specs.Cuts.{Lowest}
-use Rattle.schedule.proofs.Exact.{labels-exact}
+use Rattle.never.proofs.Horizons.{ever-least, in-time}
 use Rattle.maps.specs.Limits.{leavesRange, horizonRange}
 use Rattle.cover.specs.Cover.{Covered}
 use Rattle.writing.specs.Bytes.{Small, flatPlan}
 use Rattle.writing.proofs.PlanBytes.{plan-bytes}
+use Rattle.planner.specs.Call.{Own}
 
 -- a logic node with a legal label has a cut that carries it
 pub legal-carries : (S : Sheet) (L : ℕ → Label) (H : ℕ) → Legal S L H → (v : ℕ) → v < size S → logicNode S v ≡ true → CarryingCut S L v
@@ -83,6 +84,9 @@ module _ {S : Sheet} {graph differences : List ℕ} {limits : R.Header} (steps l
         f ∙ ap (λ (n : ℕ). flatPlan last n steps levels marks cuts) (k .nodes) ∙ plan-bytes S steps levels marks cuts c last e
 
 -- the tables and limits that a sheet was read into
+pub own : {bytes graph differences : List ℕ} {limits : R.Header} (h : Held bytes graph differences (headerMeant limits)) → Own (h .held) limits
+own h = ap (λ (x : Header). x .horizon) (h .headed)
+
 pub given : {bytes graph differences : List ℕ} {limits : R.Header} (h : Held bytes graph differences (headerMeant limits)) → Given (h .held) graph differences limits
 given h =
     record {
@@ -91,23 +95,37 @@ given h =
       listed = h .rows;
       leaves = ap (λ (x : Header). x .leaves) (h .headed);
       top = ap (λ (x : Header). x .top) (h .headed);
-      horizon = ap (λ (x : Header). x .horizon) (h .headed);
+      near = omega (arith, own h, h .well .horizon .most);
       nodes = ap (λ (x : Header). x .nodes) (h .headed);
       count = ap (λ (x : Header). x .differences) (h .headed);
     }
 
--- the labels found are legal
-pub found-legal : {S : Sheet} {graph differences : List ℕ} {limits : R.Header} (steps levels : List ℕ) → Given S graph differences limits → cutless S ≡ []
-    → leastLabels S ≡ least (labelsIn (limits .nodes) steps levels) → Legal S (at (labelsIn (size S) steps levels)) (S .horizon)
-found-legal {S} {limits = limits} steps levels g cuts e =
-    labels-exact S (g .well) cuts (labelsIn (size S) steps levels) true (e ∙ ap (λ (n : ℕ). least (labelsIn n steps levels)) (g .nodes)) .legal
+-- what least labels come to
+module _ {S : Sheet} {graph differences : List ℕ} {limits : R.Header} (steps levels : List ℕ) (g : Given S graph differences limits) (own : Own S limits) where
+  abbrev labels : List Label
+  labels = labelsIn (limits .nodes) steps levels
 
--- the outcome where labels were found, and p is their plan
-pub found-outcome : {S : Sheet} {graph differences : List ℕ} {limits : R.Header} (steps levels p : List ℕ) → Given S graph differences limits
-    → leastLabels S ≡ least (labelsIn (limits .nodes) steps levels) → p ≡ plan S (labelsIn (size S) steps levels) → (room : ℕ)
-    → timed S room (leastLabels S) ≡ within room p
-found-outcome {S} steps levels p g e q room =
-    ap (timed S room) (e ∙ ap (λ (n : ℕ). least (labelsIn n steps levels)) (g .nodes)) ∙ ap (within room) (sym q)
+  nodes-are : labels ≡ labelsIn (size S) steps levels
+  nodes-are = ap (λ (n : ℕ). labelsIn n steps levels) (g .nodes)
+
+  module _ (e : leastEver S ≡ least labels) where
+    pub late-outcome : inTime S labels (limits .horizon) ≡ false → (room : ℕ) → timed S room (leastEver S) ≡ refusal 7 0
+    late-outcome q room = ap (timed S room) e ∙ ap (λ (b : Bool). cond b (within room (plan S labels)) (refusal 7 0)) (ap (inTime S labels) (sym own) ∙ q)
+
+    -- the labels are legal, and p is their plan
+    module _ (q : inTime S labels (limits .horizon) ≡ true) where
+      timely : inTime S labels (S .horizon) ≡ true
+      timely = ap (inTime S labels) (sym own) ∙ q
+
+      pub found-legal : cutless S ≡ [] → Legal S (at (labelsIn (size S) steps levels)) (S .horizon)
+      found-legal cuts =
+          subst (λ (L : List Label). Legal S (at L) (S .horizon)) nodes-are
+          (in-time S (g .well) cuts labels (ever-least S (g .well) cuts labels e) (S .horizon) timely .legal)
+
+      pub found-outcome : (p : List ℕ) → p ≡ plan S (labelsIn (size S) steps levels) → (room : ℕ) → timed S room (leastEver S) ≡ within room p
+      found-outcome p r room =
+          ap (timed S room) e ∙ ap (λ (b : Bool). cond b (within room (plan S labels)) (refusal 7 0)) timely
+          ∙ ap (λ (L : List Label). within room (plan S L)) nodes-are ∙ ap (within room) (sym r)
 
 -- every logic node has a fitting cut, which is kept
 pub all-cut : {S : Sheet} {graph differences kept : List ℕ} {limits : R.Header} {r : ℕ} → Given S graph differences limits

@@ -3,11 +3,17 @@ use Prim.Native.Nat.{ℕ, _≤_}
 use mathlib.Core.Path.{_≡_}
 use mathlib.Core.List.{List}
 use lib.ListN.{take}
+use Rattle.maps.specs.Sheet.{Sheet}
 use Rattle.maps.specs.Outcome.{Outcome, refusal, within, outcome}
 use Rattle.maps.specs.Code.{numberOf, placeOf}
 use Rattle.maps.specs.Sizes.{planMost}
+use Rattle.rows.specs.declared.Header as R
 use Rattle.planner.specs.declared.call.Draft.{Draft}
 use Rattle.planner.specs.declared.call.Draft.the-variants as D
+
+-- the horizon of the limits is the sheet's own
+abbrev pub Own : Sheet → R.Header → Type 0
+Own S limits = limits .horizon ≡ S .horizon
 
 -- a draft's outcome, for a buffer of any length
 abbrev pub madeMeant : (bytes : List ℕ) → Draft → ℕ → Outcome

@@ -5,7 +5,7 @@ ghost use Prim.Native.Nat.{ℕ, _≤_};
 ghost use lib.ListN.{length, take};
 ghost use Rattle.maps.specs.Sheet.{Sheet, size};
 ghost use Rattle.maps.specs.Legal.{Legal};
-ghost use Rattle.maps.specs.Least.{at, leastLabels};
+ghost use Rattle.maps.specs.Least.{at, leastEver};
 ghost use Rattle.maps.specs.Plan.{plan};
 ghost use Rattle.maps.specs.Outcome.{timed, cutless, covered, outcome};
 ghost use Rattle.rows.specs.Table.{Falling};
@@ -13,7 +13,7 @@ ghost use Rattle.bound.specs.Lookup.{labelsIn};
 ghost use Rattle.bound.specs.Going.{Given, AllKept};
 ghost use Rattle.maps.specs.Sizes.{planMost};
 ghost use Rattle.bytes.specs.Outcome.{Answered, numberAnswered, placeAnswered};
-ghost use Rattle.planner.specs.Call.{Made, Short, madeMeant};
+ghost use Rattle.planner.specs.Call.{Own, Made, Short, madeMeant};
 use bound::Levels;
 use bound::Steps;
 use bytes::Answer;
@@ -27,10 +27,11 @@ use maps::Refusal;
 use rows::Differences;
 use rows::Graph;
 use rows::Header;
-use schedule::latency;
-use schedule::least_labels;
 use sheet::Reading;
 use sheet::read_sheet;
+use timing::Timing;
+use timing::latency;
+use timing::time_labels;
 use writing::PlanBytes;
 use writing::write_plan;
 
@@ -71,19 +72,23 @@ pub fn plan_kept(
     bytes: &mut PlanBytes,
 ) -> Draft
     requires { ⌜ Falling (now graph) ⌝ }
-    requires { ⌜ ((S : Sheet) × Given S (now graph) (now differences) limits × AllKept S (now kept) × (cutless S ≡ [])) ⌝ }
+    requires { ⌜ ((S : Sheet) × Given S (now graph) (now differences) limits × Own S limits × AllKept S (now kept) × (cutless S ≡ [])) ⌝ }
     requires { ⌜ length (now bytes) ≡ planMost ⌝ }
-    ensures { λ r. ⌜ ((S : Sheet) → Given S (now (graph .entry)) (now (differences .entry)) limits → AllKept S (now (kept .entry)) → cutless S ≡ []
-        → (room : ℕ) → timed S room (leastLabels S) ≡ madeMeant (now (bytes .exit)) r room) ⌝ }
+    ensures { λ r. ⌜ ((S : Sheet) → Given S (now (graph .entry)) (now (differences .entry)) limits → Own S limits → AllKept S (now (kept .entry)) → cutless S ≡ []
+        → (room : ℕ) → timed S room (leastEver S) ≡ madeMeant (now (bytes .exit)) r room) ⌝ }
     ensures { λ r. ⌜ Short r ⌝ }
 {
     let mut steps = [0u32; 256];
     let mut levels = [0u32; 256];
-    if !least_labels(graph, differences, limits, kept, &mut steps, &mut levels) {
-        return Draft::Refused(Refusal::Late(0));
+    let timing = time_labels(graph, differences, limits, kept, &mut steps, &mut levels);
+    match timing {
+        Timing::Never => Draft::Refused(Refusal::Never(0)),
+        Timing::Late => Draft::Refused(Refusal::Late(0)),
+        Timing::InTime => {
+            let length = plan_labels(graph, limits, &steps, &levels, bytes);
+            Draft::Plan(length)
+        }
     }
-    let length = plan_labels(graph, limits, &steps, &levels, bytes);
-    Draft::Plan(length)
 }
 
 // Plans the sheet in the tables.
@@ -94,9 +99,9 @@ pub fn plan_tables(
     bytes: &mut PlanBytes,
 ) -> Draft
     requires { ⌜ Falling (now graph) ⌝ }
-    requires { ⌜ ((S : Sheet) × Given S (now graph) (now differences) limits) ⌝ }
+    requires { ⌜ ((S : Sheet) × Given S (now graph) (now differences) limits × Own S limits) ⌝ }
     requires { ⌜ length (now bytes) ≡ planMost ⌝ }
-    ensures { λ r. ⌜ ((S : Sheet) → Given S (now (graph .entry)) (now (differences .entry)) limits
+    ensures { λ r. ⌜ ((S : Sheet) → Given S (now (graph .entry)) (now (differences .entry)) limits → Own S limits
         → (room : ℕ) → covered S room (cutless S) ≡ madeMeant (now (bytes .exit)) r room) ⌝ }
     ensures { λ r. ⌜ Short r ⌝ }
 {

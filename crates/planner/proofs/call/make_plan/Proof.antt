@@ -2,7 +2,7 @@
 use mathlib.Core.Path.{_∙_}
 use borrow.Author.Needs.{needs}
 use Rattle.sheet.proofs.After.{was-read, was-refused}
-use Rattle.planner.proofs.Drafts.{given, refused-outcome, sheet-outcome}
+use Rattle.planner.proofs.Drafts.{given, own, refused-outcome, sheet-outcome}
 use Rattle.planner.proofs.call.make_plan.Statement.{statement}
 use Rattle.planner.proofs.call.make_plan.Tie as tie
 
@@ -11,7 +11,7 @@ plan-tables-requires c κs =
     let r = c .before .before .before .before in
     let read = r .before .before in
     let held = was-read _ _ _ _ (rw (r .reading2 .given .1) at (read .read-sheet .ensures)) in
-    (held .walks, ((held .held, given held), read .before .before .before .before .pre))
+    (held .walks, ((held .held, given held, own held), read .before .before .before .before .pre))
 
 returns : tie.Need-returns
 returns c =
@@ -22,7 +22,7 @@ returns-2 c =
     let r = c .before .before .before .before .before in
     let held = was-read _ _ _ _ (rw (r .reading2 .given .1) at (r .before .before .read-sheet .ensures)) in
     let w = c .plan-tables .ensures in
-    (λ room. sheet-outcome _ _ (held .reads) room ∙ w .0 (held .held) (given held) room, w .1)
+    (λ room. sheet-outcome _ _ (held .reads) room ∙ w .0 (held .held) (given held) (own held) room, w .1)
 
 pub make-plan-spec : {M : Type 1} → statement M
 make-plan-spec =
