@@ -28,7 +28,7 @@ use Rattle.maps.proofs.UsedNodes.{chosen-below}
 use Rattle.maps.proofs.WrittenSize.{plan-most, within-bytes}
 use Rattle.maps.proofs.Refusing.{refuses-number}
 use Rattle.customer.specs.Bounds.{Bounded}
-use Rattle.customer.specs.Demands.{Ground, unread, uncut, tooLate, tooShort, planned}
+use Rattle.customer.specs.Demands.{Ground, unread, uncut, never, tooLate, tooShort, planned}
 use Rattle.customer.proofs.Demands.{ground-of}
 
 -- lists of at most b elements each, one after the other
@@ -90,33 +90,36 @@ module _ (S : Sheet) (well : WellFormed S) (L : List Label) (ok : Legal S (at L)
       simp length-append (omega arith)
 
 module _ (bytes : List ℕ) (room : ℕ) where
-  number-most : {k p : ℕ} → Ground bytes room k p → k ≤ 8
-  number-most (unread k p f) = omega (arith, refuses-number f .1)
-  number-most (uncut S v f h) = omega arith
-  number-most (tooLate S f a n) = omega arith
-  number-most (tooShort S L f a h l) = omega arith
-  number-most (planned S L f a h l) = omega arith
+  number-among : {k p : ℕ} → Ground bytes room k p → (k ≤ 8) ⊎ (k ≡ 12)
+  number-among (unread k p f) = inl (omega (arith, refuses-number f .1))
+  number-among (uncut S v f h) = inl (omega arith)
+  number-among (never S f a h) = inr refl
+  number-among (tooLate S f a h) = inl (omega arith)
+  number-among (tooShort S L f a h l) = inl (omega arith)
+  number-among (planned S L f a h l) = inl (omega arith)
 
   place-most : {k p : ℕ} → Ground bytes room k p → (k ≡ 0) ⊎ (k ≡ 8) → p ≤ planMost
   place-most (unread k p f) (inl e) = absurd (omega (arith, refuses-number f .0))
   place-most (unread k p f) (inr e) = absurd (omega (arith, refuses-number f .1))
   place-most (uncut S v f h) (inl e) = absurd (omega arith)
   place-most (uncut S v f h) (inr e) = absurd (omega arith)
-  place-most (tooLate S f a n) e = omega arith
+  place-most (never S f a h) e = omega arith
+  place-most (tooLate S f a h) e = omega arith
   place-most (tooShort S L f a h l) e = plan-length S (f .well) L (h .isLeast .legal)
   place-most (planned S L f a h l) e = plan-length S (f .well) L (h .isLeast .legal)
 
   room-less : {k p : ℕ} → Ground bytes room k p → k ≡ 8 → room < p
   room-less (unread k p f) e = absurd (omega (arith, refuses-number f .1))
   room-less (uncut S v f h) e = absurd (omega arith)
-  room-less (tooLate S f a n) e = absurd (omega arith)
+  room-less (never S f a h) e = absurd (omega arith)
+  room-less (tooLate S f a h) e = absurd (omega arith)
   room-less (tooShort S L f a h l) e = l
   room-less (planned S L f a h l) e = absurd (omega arith)
 
   pub bounded : {k p : ℕ} → Ground bytes room k p → Bounded room k p
   bounded g =
       record {
-        numbers = number-most g;
+        numbers = number-among g;
         written = λ e. omega (arith, plan-most, place-most g (inl e));
         wanted = λ e. omega (arith, plan-most, place-most g (inr e));
         enough = λ l e. omega (arith, plan-most, room-less g e, place-most g (inr e));
@@ -124,8 +127,8 @@ module _ (bytes : List ℕ) (room : ℕ) where
 
   -- the same of the defined outcome
   module _ (b : Bytes bytes) where
-    pub outcome-number : outcomeNumber (outcome bytes room) ≤ 8
-    outcome-number = number-most (ground-of bytes room b)
+    pub outcome-number : (outcomeNumber (outcome bytes room) ≤ 8) ⊎ (outcomeNumber (outcome bytes room) ≡ 12)
+    outcome-number = number-among (ground-of bytes room b)
 
     pub written-most : (p : List ℕ) → outcome bytes room ≡ accepted p → length p ≤ planMost
     written-most p e = place-most (rw e at (ground-of bytes room b)) (inl refl)

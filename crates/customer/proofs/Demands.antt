@@ -12,8 +12,8 @@ use Rattle.maps.specs.Lists.{mem, keep, below}
 use Rattle.maps.specs.Label.{Label}
 use Rattle.maps.specs.Sheet.{Sheet, node, size, isLogic}
 use Rattle.maps.specs.Cut.{FittingCut, logicNode, cut, fittingCuts}
-use Rattle.maps.specs.Legal.{Legal, CarryingCut, NoneLegal}
-use Rattle.maps.specs.Least.{at, Labels, late, least, leastLabels, Answer, none, some}
+use Rattle.maps.specs.Legal.{Legal, CarryingCut, NoneLegal, Never, Longer}
+use Rattle.maps.specs.Least.{at, inTime, Labels, leastEver}
 use Rattle.maps.specs.Cover.{Used, used, chosenCut}
 use Rattle.maps.specs.Plan.{plan}
 use Rattle.maps.specs.Number.{Bytes}
@@ -26,10 +26,11 @@ use Rattle.maps.proofs.Member.{keep-in, below-in, keep-append}
 use Rattle.maps.proofs.Enumerate.{clash, complete, sound}
 use Rattle.maps.proofs.Chosen.{chosen-is}
 use Rattle.maps.proofs.UsedNodes.{used-in, used-complete, used-sound}
-use Rattle.maps.proofs.Fix.{is-least, is-late}
 use Rattle.maps.proofs.Written.{reads-parse, parse-reads}
 use Rattle.maps.proofs.Refusing.{parse-refuses, refuses-parse, refuses-number}
-use Rattle.maps.proofs.Planned.{ordered, read-least-right, latency-least}
+use Rattle.maps.proofs.Planned.{ordered, latency-least}
+use Rattle.never.specs.Ever.{Ever, never, some}
+use Rattle.never.proofs.Horizons.{ever-right, in-time, longer, is-never, is-longer, is-in-time}
 use Rattle.customer.specs.Demands.{AllCut, LowestCutless, LeastLabels, Ground, unread, uncut, tooLate, tooShort, planned, Covers, Demand-1, Planned, Demand-2, LeastPlan, Demand-3}
 use Rattle.bytes.specs.Outcome.{Answered}
 use Rattle.customer.proofs.Answers.{untouched, placed, front, back}
@@ -162,29 +163,42 @@ module _ (S : Sheet) (well : WellFormed S) (L : List Label) (ok : Legal S (at L)
 
 -- ---- the outcome of a sheet in which each logic node has a fitting cut
 
+-- nothing is legal under any horizon, nothing within H but within a larger one, or there are least labels
+data Found (S : Sheet) : Type 0 where
+  nowhere : Never S → Found S
+  further : Longer S → Found S
+  here : (L : List Label) → LeastLabels S L → Found S
+
 module _ (bytes : List ℕ) (S : Sheet) (e : ReadsAs bytes S) (a : AllCut S) where
   none-lacks : cutless S ≡ []
   none-lacks = none-cutless S (e .well) a
 
-  answer : Answer S (leastLabels S)
-  answer = read-least-right bytes S (reads-parse bytes S e) none-lacks
-
-  timed-outcome : (room : ℕ) → outcome bytes room ≡ timed S room (leastLabels S)
+  timed-outcome : (room : ℕ) → outcome bytes room ≡ timed S room (leastEver S)
   timed-outcome room = sheet-outcome bytes S (reads-parse bytes S e) room ∙ ap (covered S room) none-lacks
 
-  late-outcome : NoneLegal S → (room : ℕ) → outcome bytes room ≡ refusal 7 0
-  late-outcome n room = timed-outcome room ∙ ap (timed S room) (is-late S answer n)
+  never-outcome : Never S → (room : ℕ) → outcome bytes room ≡ refusal 12 0
+  never-outcome n room = timed-outcome room ∙ ap (timed S room) (is-never S (e .well) none-lacks n)
+
+  late-outcome : Longer S → (room : ℕ) → outcome bytes room ≡ refusal 7 0
+  late-outcome h room =
+      let l = is-longer S (e .well) none-lacks h in
+      timed-outcome room ∙ ap (timed S room) (l .1) ∙ ap (λ (t : Bool). cond t (within room (plan S (l .0))) (refusal 7 0)) (l .2)
 
   least-outcome : (L : List Label) → LeastLabels S L → (room : ℕ) → outcome bytes room ≡ within room (plan S L)
-  least-outcome L h room = timed-outcome room ∙ ap (timed S room) (is-least S answer L (h .sized) (h .isLeast))
+  least-outcome L h room =
+      let l = is-in-time S (e .well) none-lacks L (h .sized) (h .isLeast) in
+      timed-outcome room ∙ ap (timed S room) (l .0) ∙ ap (λ (t : Bool). cond t (within room (plan S L)) (refusal 7 0)) (l .1)
 
-  -- nothing is legal within H, or there are least labels
-  found : NoneLegal S ⊎ ((L : List Label) × LeastLabels S L)
-  found = go answer
+  found : Found S
+  found = go (ever-right S (e .well) none-lacks)
     where
-      go : {r : Labels} → Answer S r → NoneLegal S ⊎ ((L : List Label) × LeastLabels S L)
-      go (none h) = inl h
-      go (some {L} n h) = inr (L, record { sized = n; isLeast = h })
+      go : {r : Labels} → Ever S r → Found S
+      go (never h) = nowhere h
+      go (some {L} n h) = pick (inTime S L (S .horizon)) refl
+        where
+          pick : (t : Bool) → inTime S L (S .horizon) ≡ t → Found S
+          pick true q = here L (record { sized = n; isLeast = in-time S (e .well) none-lacks L h (S .horizon) q })
+          pick false q = further (longer S (e .well) none-lacks L h q)
 
   in-room : (L : List Label) → LeastLabels S L → (room : ℕ) → length (plan S L) ≤ room → outcome bytes room ≡ accepted (plan S L)
   in-room L h room l = least-outcome L h room ∙ rw (le-leb (length (plan S L)) room l)
@@ -200,9 +214,10 @@ module _ (bytes : List ℕ) (S : Sheet) (e : ReadsAs bytes S) (a : AllCut S) whe
       fits L h true q = let l = leb-true (length (plan S L)) room q in rw (in-room L h room l) (planned S L e a h l)
       fits L h false q = let l = leb-false (length (plan S L)) room q in rw (no-room L h room l) (tooShort S L e a h l)
 
-      go : NoneLegal S ⊎ ((L : List Label) × LeastLabels S L) → GroundOf bytes room
-      go (inl n) = rw (late-outcome n room) (tooLate S e a n)
-      go (inr h) = fits (h .0) (h .1) (leb (length (plan S (h .0))) room) refl
+      go : Found S → GroundOf bytes room
+      go (nowhere n) = rw (never-outcome n room) (Ground.never S e a n)
+      go (further h) = rw (late-outcome h room) (tooLate S e a h)
+      go (here L h) = fits L h (leb (length (plan S L)) room) refl
 
 -- ---- any bytes
 
@@ -226,7 +241,8 @@ module _ (bytes : List ℕ) (room : ℕ) where
       go : (vs : List ℕ) → cutless S ≡ vs → covered S room vs ≡ refusal 6 v
       go [] q = let k = all-cut S (e .well) q v (h .node) (h .isLogic) in absurd (h .none (k .0) (k .1))
       go (w ∷ ws) q = ap (refusal 6) (sym (one-lowest S (e .well) v w h (lowest-cutless S (e .well) w ws q)))
-  said (tooLate S e a n) = parts (late-outcome bytes S e a n room)
+  said (Ground.never S e a n) = parts (never-outcome bytes S e a n room)
+  said (tooLate S e a h) = parts (late-outcome bytes S e a h room)
   said (tooShort S L e a h l) = parts (no-room bytes S e a L h room l)
   said (planned S L e a h l) = parts (in-room bytes S e a L h room l)
 
@@ -239,16 +255,17 @@ module _ (bytes buffer : List ℕ) (number place : ℕ) (after : List ℕ) (b : 
       record {
         holds = rw (is .0, is .1) (ground-of bytes (length buffer) b);
         said = λ k p g. let h = said bytes (length buffer) g in (is .0 ∙ h .0, is .1 ∙ h .1);
-        malformed = λ never. rw (is .0) (unreadable never (ground-of bytes (length buffer) b));
+        malformed = λ unread. rw (is .0) (unreadable unread (ground-of bytes (length buffer) b));
         untouched = untouched (outcome bytes (length buffer)) number place buffer after is;
       }
     where
       unreadable : {k p : ℕ} → ((S : Sheet) → ReadsAs bytes S → ⊥) → Ground bytes (length buffer) k p → (1 ≤ k) × (k ≤ 5)
-      unreadable never (unread k p f) = refuses-number f
-      unreadable never (uncut S v f h) = absurd (never S f)
-      unreadable never (tooLate S f a n) = absurd (never S f)
-      unreadable never (tooShort S L f a h l) = absurd (never S f)
-      unreadable never (planned S L f a h l) = absurd (never S f)
+      unreadable none (unread k p f) = refuses-number f
+      unreadable none (uncut S v f h) = absurd (none S f)
+      unreadable none (Ground.never S f a h) = absurd (none S f)
+      unreadable none (tooLate S f a h) = absurd (none S f)
+      unreadable none (tooShort S L f a h l) = absurd (none S f)
+      unreadable none (planned S L f a h l) = absurd (none S f)
 
   pub demand-2 : Demand-2 bytes buffer number place after
   demand-2 z = go (ground-of bytes (length buffer) b) (sym (is .0) ∙ z)
@@ -256,7 +273,8 @@ module _ (bytes buffer : List ℕ) (number place : ℕ) (after : List ℕ) (b : 
       go : {k p : ℕ} → Ground bytes (length buffer) k p → k ≡ 0 → Planned bytes buffer number place after
       go (unread k p f) q = absurd (omega (arith, refuses-number f .0))
       go (uncut S v f h) q = absurd (omega arith)
-      go (tooLate S f a n) q = absurd (omega arith)
+      go (Ground.never S f a h) q = absurd (omega arith)
+      go (tooLate S f a h) q = absurd (omega arith)
       go (tooShort S L f a h l) q = absurd (omega arith)
       go (planned S L f a h l) q =
           let o = outcome bytes (length buffer) in
@@ -277,8 +295,12 @@ module _ (bytes buffer : List ℕ) (number place : ℕ) (after : List ℕ) (b : 
   pub demand-3 : Demand-3 bytes buffer number place after
   demand-3 S e a =
       record {
-        late = λ n. is .0 ∙ ap outcomeNumber (late-outcome bytes S e a n room);
+        late = λ n. refused n (found bytes S e a);
         lateOnly = λ q. only q (found bytes S e a);
+        never = never-said;
+        neverOnly = λ q. never-only q (found bytes S e a);
+        longer = late-said;
+        longerOnly = λ q. longer-only q (found bytes S e a);
         otherwise = λ q. rest q (found bytes S e a);
       }
     where
@@ -294,23 +316,49 @@ module _ (bytes buffer : List ℕ) (number place : ℕ) (after : List ℕ) (b : 
           let o = no-room bytes S e a L h room (leb-false (length (plan S L)) room q) in
           (inr (is .0 ∙ ap outcomeNumber o), is .1 ∙ ap outcomePlace o, λ z. absurd (omega (arith, is .0, ap outcomeNumber o)))
 
-      not-late : (number ≡ 0) ⊎ (number ≡ 8) → number ≡ 7 → ⊥
-      not-late (inl z) q = omega arith
-      not-late (inr z) q = omega arith
+      never-said : Never S → number ≡ 12
+      never-said n = is .0 ∙ ap outcomeNumber (never-outcome bytes S e a n room)
 
-      only : number ≡ 7 → NoneLegal S ⊎ ((L : List Label) × LeastLabels S L) → NoneLegal S
-      only q (inl n) = n
-      only q (inr h) = absurd (not-late (fits-or (h .0) (h .1) (leb (length (plan S (h .0))) room) refl .0) q)
+      late-said : Longer S → number ≡ 7
+      late-said h = is .0 ∙ ap outcomeNumber (late-outcome bytes S e a h room)
 
-      rest : (number ≡ 7 → ⊥) → NoneLegal S ⊎ ((L : List Label) × LeastLabels S L) → LeastPlan bytes buffer number place after S
-      rest q (inl n) = absurd (q (is .0 ∙ ap outcomeNumber (late-outcome bytes S e a n room)))
-      rest q (inr h) =
-          let f = fits-or (h .0) (h .1) (leb (length (plan S (h .0))) room) refl in
+      -- where there are least labels the number is 0 or 8
+      not-for-time : (L : List Label) → LeastLabels S L → (number ≡ 7 → ⊥) × (number ≡ 12 → ⊥)
+      not-for-time L h = go (fits-or L h (leb (length (plan S L)) room) refl .0)
+        where
+          go : (number ≡ 0) ⊎ (number ≡ 8) → (number ≡ 7 → ⊥) × (number ≡ 12 → ⊥)
+          go (inl z) = (λ q. omega arith, λ q. omega arith)
+          go (inr z) = (λ q. omega arith, λ q. omega arith)
+
+      refused : NoneLegal S (S .horizon) → Found S → (number ≡ 7) ⊎ (number ≡ 12)
+      refused n (nowhere h) = inr (never-said h)
+      refused n (further h) = inl (late-said h)
+      refused n (here L h) = absurd (n (at L) (h .isLeast .legal))
+
+      never-only : number ≡ 12 → Found S → Never S
+      never-only q (nowhere h) = h
+      never-only q (further h) = absurd (omega (arith, late-said h))
+      never-only q (here L h) = absurd (not-for-time L h .1 q)
+
+      longer-only : number ≡ 7 → Found S → Longer S
+      longer-only q (nowhere h) = absurd (omega (arith, never-said h))
+      longer-only q (further h) = h
+      longer-only q (here L h) = absurd (not-for-time L h .0 q)
+
+      only : (number ≡ 7) ⊎ (number ≡ 12) → Found S → NoneLegal S (S .horizon)
+      only (inl q) f = longer-only q f .none
+      only (inr q) f = never-only q f (S .horizon)
+
+      rest : ((number ≡ 7) ⊎ (number ≡ 12) → ⊥) → Found S → LeastPlan bytes buffer number place after S
+      rest q (nowhere h) = absurd (q (inr (never-said h)))
+      rest q (further h) = absurd (q (inl (late-said h)))
+      rest q (here L h) =
+          let f = fits-or L h (leb (length (plan S L)) room) refl in
           record {
-            labels = h .0;
-            least = h .1;
-            latency = latency-least S (S .horizon) (at (h .0)) (h .1 .isLeast);
-            covers = covers S (e .well) (h .0) (h .1 .isLeast .legal);
+            labels = L;
+            least = h;
+            latency = latency-least S (S .horizon) (at L) (h .isLeast);
+            covers = covers S (e .well) L (h .isLeast .legal);
             answered = f .0;
             counted = f .1;
             written = f .2;

@@ -10,7 +10,7 @@ use Rattle.maps.specs.Lists.{mem}
 use Rattle.maps.specs.Label.{Label}
 use Rattle.maps.specs.Sheet.{Sheet, size}
 use Rattle.maps.specs.Cut.{FittingCut, logicNode}
-use Rattle.maps.specs.Legal.{Legal, NoneLegal, Least, latencyOfAll}
+use Rattle.maps.specs.Legal.{Legal, NoneLegal, Never, Longer, Least, latencyOfAll}
 use Rattle.maps.specs.Least.{at}
 use Rattle.maps.specs.Cover.{Chosen, Used, used}
 use Rattle.maps.specs.Plan.{leavesOf, plan}
@@ -38,8 +38,9 @@ pub data Ground (bytes : List ℕ) (room : ℕ) : (number place : ℕ) → Type 
   unread : (k p : ℕ) → Refuses bytes k p → Ground bytes room k p
   -- "every logic node without a fitting cut"
   uncut : (S : Sheet) (v : ℕ) → ReadsAs bytes S → LowestCutless S v → Ground bytes room 6 v
-  -- "every sheet without legal labels"
-  tooLate : (S : Sheet) → ReadsAs bytes S → AllCut S → NoneLegal S → Ground bytes room 7 0
+  -- "every sheet without legal labels": under any horizon, or within its own where "some larger horizon .. would satisfy" it
+  never : (S : Sheet) → ReadsAs bytes S → AllCut S → Never S → Ground bytes room 12 0
+  tooLate : (S : Sheet) → ReadsAs bytes S → AllCut S → Longer S → Ground bytes room 7 0
   -- "every short buffer"
   tooShort : (S : Sheet) (L : List Label) → ReadsAs bytes S → AllCut S → LeastLabels S L → room < length (plan S L)
       → Ground bytes room 8 (length (plan S L))
@@ -97,11 +98,20 @@ module _ (bytes buffer : List ℕ) (number place : ℕ) (after : List ℕ) where
     pub counted : place ≡ length (plan S labels)
     pub written : number ≡ 0 → take place after ≡ plan S labels
 
-  -- "refused for time exactly when no legal labelling lies within its horizon. Otherwise .."
+  -- "To be refused for time means either one": 7 or 12
+  abbrev pub ForTime : Type 0
+  ForTime = (number ≡ 7) ⊎ (number ≡ 12)
+
+  -- "refused for time exactly when no legal labelling lies within its horizon. Otherwise .."; by document 02, U6, 12 exactly when none lies within any
+  -- horizon, and 7 exactly when none lies within its own and one within a larger
   pub record InTime (S : Sheet) : Type 0 where
-    pub late : NoneLegal S → number ≡ 7
-    pub lateOnly : number ≡ 7 → NoneLegal S
-    pub otherwise : (number ≡ 7 → ⊥) → LeastPlan S
+    pub late : NoneLegal S (S .horizon) → ForTime
+    pub lateOnly : ForTime → NoneLegal S (S .horizon)
+    pub never : Never S → number ≡ 12
+    pub neverOnly : number ≡ 12 → Never S
+    pub longer : Longer S → number ≡ 7
+    pub longerOnly : number ≡ 7 → Longer S
+    pub otherwise : (ForTime → ⊥) → LeastPlan S
 
   -- "3. A sheet that reads and whose logic nodes all have a fitting cut (all such cuts counting, however many) is refused for time exactly when no
   -- legal labelling lies within its horizon. Otherwise .."

@@ -1,7 +1,7 @@
 -- The labels of any horizon: `leastEver` gives the least legal labels, or says late, and then nothing is legal under any horizon. Where they are in
 -- time for a horizon they are the least legal ones within it; where not, nothing is legal within it, but within a larger one.
 use Prim.Native.Nat.{ℕ, _+_, _≤_, _<_}
-use mathlib.Core.Path.{_≡_, refl, sym, subst}
+use mathlib.Core.Path.{_≡_, refl, sym, subst, ap}
 use mathlib.Core.Bool.{Bool, true, false}
 use mathlib.Core.List.{List, []}
 use native.Mathlib.Omega.{arith}
@@ -15,7 +15,7 @@ use Rattle.maps.specs.Legal.{Legal, NoneLegal, Never, Longer, Least}
 use Rattle.maps.specs.Least.{at, inTime, Labels, late, least, Answer, none, some, leastWithin, reach, leastEver}
 use Rattle.maps.specs.Outcome.{cutless}
 use Rattle.maps.proofs.Over.{all-below, all-fails}
-use Rattle.maps.proofs.Fix.{is-least, is-late}
+use Rattle.maps.proofs.Fix.{unique, is-least, is-late}
 use Rattle.maps.proofs.Planned.{least-right}
 use Rattle.relax.proofs.Closed.{Closed, well-closed}
 use Rattle.relax.proofs.Guard.{legal-node, legal-diffs, ok-legal}
@@ -81,6 +81,39 @@ module _ (S : Sheet) (well : WellFormed S) (cuts : cutless S ≡ []) where
         labels = at L;
         legal = h .legal;
       }
+
+  -- which computed labels stand for each case
+  pub is-never : Never S → leastEver S ≡ late
+  is-never h = go ever-right
+    where
+      go : {r : Labels} → E.Ever S r → r ≡ late
+      go (E.never k) = refl
+      go (E.some {L} n k) = absurd (h (reach S) (at L) (k .legal))
+
+  pub is-longer : Longer S → (L : List Label) × (leastEver S ≡ least L) × (inTime S L (S .horizon) ≡ false)
+  is-longer h = go ever-right
+    where
+      go : {r : Labels} → E.Ever S r → (L : List Label) × (r ≡ least L) × (inTime S L (S .horizon) ≡ false)
+      go (E.never k) = absurd (k (h .horizon) (h .labels) (h .legal))
+      go (E.some {L} n k) = (L, refl, pick (inTime S L (S .horizon)) refl)
+        where
+          pick : (t : Bool) → inTime S L (S .horizon) ≡ t → inTime S L (S .horizon) ≡ false
+          pick true e = absurd (h .none (at L) (in-time L k (S .horizon) e .legal))
+          pick false e = e
+
+  pub is-in-time : (L : List Label) → length L ≡ size S → Least S (S .horizon) (at L) → (leastEver S ≡ least L) × (inTime S L (S .horizon) ≡ true)
+  is-in-time L n h = (go ever-right, pick (inTime S L (S .horizon)) refl)
+    where
+      l : Least S (reach S) (at L)
+      l = least-reach S closed (S .horizon) (at L) h
+
+      go : {r : Labels} → E.Ever S r → r ≡ least L
+      go (E.never k) = absurd (k (S .horizon) (at L) (h .legal))
+      go (E.some {L = R} m k) = ap least (unique S (reach S) R L m n k l)
+
+      pick : (t : Bool) → inTime S L (S .horizon) ≡ t → inTime S L (S .horizon) ≡ true
+      pick true e = e
+      pick false e = absurd (none-in-time L l (S .horizon) e (at L) (h .legal))
 
   -- a horizon that is no nearer than `reach` gives the same labels
   pub far-ever : (G : ℕ) → reach S ≤ G → leastWithin S G ≡ leastEver S
