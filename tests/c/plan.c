@@ -1,6 +1,6 @@
-/* A caller in C: the hall sheet of document 01 byte for byte, every number from 0 to 8 with its place, numbers of three bytes, memories that deliver
- * after the clock edge, exact and short buffers, known bytes round the buffer, and the length of a plan. It counts cases, each of several
- * comparisons. From the folder that holds include/, tests/ and target/:
+/* A caller in C: the hall sheet of document 01 byte for byte, every number from 0 to 8 and 12 with its place, numbers of three bytes, sheets that no
+ * horizon satisfies, memories that deliver after the clock edge, exact and short buffers, known bytes round the buffer, and the length of a plan. It
+ * counts cases, each of several comparisons. From the folder that holds include/, tests/ and target/:
  *
  *   gcc -std=c11 -Wall -Wextra -Wpedantic -Werror -Wconversion -Wshadow -Iinclude tests/c/plan.c -Ltarget/staticlib -lplanner -o target/plan_c
  */
@@ -173,6 +173,58 @@ static void horizons(void) {
     expect("2: 84 80 00 as H", sheet, sizeof HALL + 2, MAPS_SPELLING, 2, NULL);
 }
 
+/* One case: the hall sheet with this H and a second difference is refused for time, in an ample buffer, in every short one and in none. */
+static void second(const char *name, uint8_t h, uint8_t u, uint8_t v, uint8_t w_code, uint64_t number) {
+    const uint8_t sheet[] = {0x03, 0x02, h, 0x06, 0x02, HALL_NODES, 0x00, 0x05, 0x02, u, v, w_code};
+    int holds = planned(sheet, sizeof sheet, ROOM, number, 0, NULL) && same(maps_plan_length(sheet, sizeof sheet), number, 0);
+    for (size_t room = 0; room < ROOM; room++) {
+        holds = planned(sheet, sizeof sheet, room, number, 0, NULL) && holds;
+    }
+    check(holds, name);
+}
+
+/* Sheets that no horizon satisfies, and sheets that a horizon past H would. */
+static void never(void) {
+    second("12: hall with (5, 0, 0)", 4, 5, 0, 0, MAPS_NEVER);
+    second("12: hall with (5, 0, 0), H = 0", 0, 5, 0, 0, MAPS_NEVER);
+    second("12: hall with (5, 0, 0), H = 127", 127, 5, 0, 0, MAPS_NEVER);
+    second("7: hall with (5, 0, -1), H = 0", 0, 5, 0, 1, MAPS_LATE);
+    second("12: hall with (2, 2, 1)", 4, 2, 2, 2, MAPS_NEVER);
+    second("12: hall with (2, 2, 1), H = 0", 0, 2, 2, 2, MAPS_NEVER);
+    second("7: hall with (2, 2, 0), H = 0", 0, 2, 2, 0, MAPS_LATE);
+    second("7: hall with (0, 5, 5), H = 4", 4, 0, 5, 10, MAPS_LATE);
+    /* T = 1: a box with d = 1 and a table with d = 1 on it are never in one step; T = 2: they are. */
+    static const uint8_t pair[] = {2, 1, 1, 2, 1, 2, 0, 1, 0, 0, 0, 1, 1, 1, 0, 0, 1, 0, 1, 0, 0};
+    static const uint8_t next_step[] = {1, 0, 1, 1, 0, 1, 1, 1, 1, 0}, same_step[] = {0, 0, 1, 1, 0, 0, 2, 1, 1, 0};
+    uint8_t sheet[sizeof pair];
+    memcpy(sheet, pair, sizeof sheet);
+    expect("12: levels alone", sheet, sizeof sheet, MAPS_NEVER, 0, NULL);
+    sheet[20] = 1;
+    expect("levels alone, w = -1", sheet, sizeof sheet, MAPS_ACCEPTED, sizeof next_step, next_step);
+    sheet[2] = 0;
+    expect("7: levels alone, w = -1, H = 0", sheet, sizeof sheet, MAPS_LATE, 0, NULL);
+    memcpy(sheet, pair, sizeof sheet);
+    sheet[1] = 2;
+    expect("levels alone, T = 2", sheet, sizeof sheet, MAPS_ACCEPTED, sizeof same_step, same_step);
+    /* Three inputs, 65,535 steps from each to the next: past every H; with a difference from the last to itself there is no horizon. */
+    static const uint8_t far[] = {2, 1, 0xff, 0xff, 0x03, 3, 3, 0, 0, 0, 0, 0, 0, 0, 0, 0, 0, 0, 0, 0, 0, 0, 0, 0, 0,
+                                  0, 1, 0xfe, 0xff, 0x07, 1, 2, 0xfe, 0xff, 0x07, 2, 2, 0};
+    uint8_t further[sizeof far];
+    memcpy(further, far, sizeof further);
+    expect("7: labels past 65,535", further, sizeof further, MAPS_LATE, 0, NULL);
+    further[sizeof far - 1] = 2;
+    expect("12: a ring past 65,535", further, sizeof further, MAPS_NEVER, 0, NULL);
+    /* Node 3 has no fitting cut and a difference with itself; a latency is past H in a sheet that no horizon satisfies. */
+    static const uint8_t wide[] = {2, 1, 0, 4, 1, 0, 0, 0, 0, 0, 0, 0, 0, 0, 0, 0, 0, 0, 0, 0, 0, 0, 0, 1, 1, 1, 0, 0, 3, 0, 1, 2, 3, 3, 2};
+    expect("6: before 12", wide, sizeof wide, MAPS_NO_CUT, 3, NULL);
+    static const uint8_t slow[] = {2, 1, 8, 2, 1, 2, 0, 0, 9, 0, 0, 0, 0, 0, 0, 0, 0, 1, 1, 2};
+    expect("12: before 7", slow, sizeof slow, MAPS_NEVER, 0, NULL);
+    expect("1: before 12", slow, sizeof slow - 1, MAPS_SHEET_ENDS, sizeof slow - 1, NULL);
+    uint8_t longer[sizeof slow + 1] = {0};
+    memcpy(longer, slow, sizeof slow);
+    expect("5: before 12", longer, sizeof longer, MAPS_BYTES_FOLLOW, sizeof slow, NULL);
+}
+
 /* K = 2, T = 4, H = 9: an input, a box with d = 0 on it that has this lat and q, and a reader of the box. */
 static void memory(uint8_t sheet[25], uint8_t lat, uint8_t q, uint8_t kind, uint8_t delay) {
     const uint8_t bytes[25] = {2, 4, 9, 3, 0, 0, 0, 0, 0, 0, 0, 2, 0, 0, lat, q, 1, 0, kind, 1, delay, 0, 0, 1, 1};
@@ -239,13 +291,15 @@ static void lengths(void) {
 /* The words for the numbers are there and differ. */
 static void words(void) {
     int differ = 1;
-    for (uint64_t a = 0; a <= 9; a++) {
+    for (uint64_t a = 0; a <= 13; a++) {
         for (uint64_t b = 0; b < a; b++) {
             differ = strcmp(maps_text(a), maps_text(b)) != 0 && differ;
         }
     }
     check(differ, "words that differ");
     check(strcmp(maps_text(MAPS_LATE), "no legal labelling within H") == 0, "words of 7");
+    check(MAPS_NEVER == 12 && strcmp(maps_text(12), "no legal labelling under any horizon") == 0, "words of 12");
+    check(strcmp(maps_text(13), "no number of the documents") == 0, "no words of 13");
     check(strcmp(maps_text(MAPS_SPELLING), "the last byte of several is 0, or a third byte is above 127") == 0, "words of 2");
 }
 
@@ -253,6 +307,7 @@ int main(void) {
     hall();
     grounds();
     horizons();
+    never();
     memories();
     lengths();
     words();

@@ -1,4 +1,5 @@
-//! Legal and least labellings by brute force: the conditions of document 01 as written, with document 02's ready label (U5), over all fitting cuts.
+//! Legal and least labellings by brute force: the conditions of document 01 as written, with document 02's ready label (U5), over all fitting cuts;
+//! and whether there is a legal labelling under any horizon (U6).
 use crate::cones;
 use crate::reader::{Node, Sheet};
 
@@ -79,22 +80,136 @@ fn asked(sheet: &Sheet, cuts: &[Vec<Vec<u32>>], labels: &[Label], v: usize) -> L
     (least.0, least.1.max(node.delay))
 }
 
-/// Number and place of grounds 6 and 7, or the least labels.
+/// What a condition on a node looks at in another one.
+#[derive(Clone, Copy)]
+enum Look {
+    /// The ready step of an operand.
+    Operand,
+    /// The arrival from an operand of a box.
+    Box,
+    /// The arrival from a leaf of the cut that carries a table.
+    Leaf,
+    /// The step, to which w is added.
+    Difference(i32),
+}
+
+/// A raise of a node's label by a condition that looks at node `from`; `cause` is the raise that gave that node its label, if one did.
+struct Raise {
+    node: usize,
+    from: u32,
+    look: Look,
+    cause: Option<usize>,
+}
+
+/// Least labels where each table is carried by the cut given for it, or need not be where that is empty; or a ring of conditions that rises, as the
+/// tables that it passes through, each with the leaf by which it comes.
+///
+/// A condition asks for a bound that moves with the other node's label, a step for a step, and a difference looks at steps alone. So where the causes
+/// of a raise by a difference lead back to an earlier raise of the same node by a difference, the conditions between them ask of its step that it be
+/// later than itself. Without such a ring no line of causes has more differences than there are nodes, and the raises come to an end.
+pub fn carried(sheet: &Sheet, chosen: &[&[u32]]) -> Result<Vec<Label>, Vec<(usize, u32)>> {
+    let mut conditions: Vec<Vec<(u32, Look)>> = vec![Vec::new(); sheet.nodes.len()];
+    for (v, node) in sheet.nodes.iter().enumerate() {
+        conditions[v].extend(node.operands.iter().map(|&u| (u, if node.kind == 2 { Look::Box } else { Look::Operand })));
+        conditions[v].extend(chosen[v].iter().map(|&u| (u, Look::Leaf)));
+    }
+    sheet.differences.iter().for_each(|d| conditions[d.to as usize].push((d.from, Look::Difference(d.weight))));
+    let mut labels: Vec<Label> = sheet.nodes.iter().map(|node| (0, node.delay)).collect();
+    let (mut raises, mut last): (Vec<Raise>, Vec<Option<usize>>) = (Vec::new(), vec![None; labels.len()]);
+    loop {
+        let before = raises.len();
+        for (v, node) in sheet.nodes.iter().enumerate() {
+            for &(from, look) in &conditions[v] {
+                let other = labels[from as usize];
+                let ready = ready(&sheet.nodes[from as usize], other);
+                let bound = match look {
+                    Look::Operand => (ready.0, node.delay),
+                    Look::Box | Look::Leaf => plus(ready, node.delay, sheet.top),
+                    Look::Difference(w) => ((other.0 as i64 + w as i64).max(0) as u32, node.delay),
+                };
+                if bound > labels[v] {
+                    labels[v] = bound;
+                    raises.push(Raise { node: v, from, look, cause: last[from as usize] });
+                    last[v] = Some(raises.len() - 1);
+                    if let Some(ring) = ring(&raises) {
+                        return Err(ring);
+                    }
+                }
+            }
+        }
+        if raises.len() == before {
+            return Ok(labels);
+        }
+    }
+}
+
+/// Where the last raise is by a difference and its causes lead back to one of the same node by a difference: the tables between, with their leaves.
+fn ring(raises: &[Raise]) -> Option<Vec<(usize, u32)>> {
+    let (Raise { node, look: Look::Difference(_), cause, .. }, mut through) = (raises.last()?, Vec::new()) else {
+        return None;
+    };
+    let mut at = *cause;
+    while let Some(raise) = at.map(|i| &raises[i]) {
+        match raise.look {
+            Look::Difference(_) if raise.node == *node => return Some(through),
+            Look::Leaf if !through.contains(&(raise.node, raise.from)) => through.push((raise.node, raise.from)),
+            _ => {}
+        }
+        at = raise.cause;
+    }
+    None
+}
+
+/// A legal labelling under some horizon, if there is one under any.
+///
+/// In a legal labelling each table is carried by some cut. Choose one cut for each table: if no ring of conditions rises, there is a legal labelling.
+/// If one does, then in every legal labelling some table of the ring is carried by a cut without the leaf by which the ring comes to it. So what is
+/// left is to look for a legal labelling without the cuts of that table that have that leaf, for each table of the ring in turn.
+pub fn legal_ever(sheet: &Sheet, cuts: &[Vec<Vec<u32>>]) -> Option<Vec<Label>> {
+    let tables = || (0..cuts.len()).filter(|&v| sheet.nodes[v].kind == 1);
+    if tables().any(|v| cuts[v].is_empty()) {
+        return None;
+    }
+    // Any choice will do. Good ones are those that are best after some rounds.
+    let mut labels = vec![(0, 0); cuts.len()];
+    for _ in 0..if tables().next().is_some() { cuts.len() } else { 0 } {
+        labels = (0..cuts.len()).map(|v| asked(sheet, cuts, &labels, v)).collect();
+    }
+    let mut chosen: Vec<&[u32]> = vec![&[]; cuts.len()];
+    for v in tables() {
+        chosen[v] = cuts[v].iter().min_by_key(|leaves| arrival(sheet, &labels, v, leaves)).expect("a cut");
+    }
+    match carried(sheet, &chosen) {
+        Ok(labels) => Some(labels),
+        Err(ring) => ring.iter().find_map(|&(v, leaf)| {
+            let mut fewer = cuts.to_vec();
+            fewer[v].retain(|leaves| !leaves.contains(&leaf));
+            legal_ever(sheet, &fewer)
+        }),
+    }
+}
+
+/// Number and place of grounds 6, 12 and 7, in that order, or the least labels.
 pub fn least(sheet: &Sheet) -> Result<Vec<Label>, (u64, u64)> {
     least_over(sheet, &fitting_cuts(sheet))
 }
 
 /// The same, given the fitting cuts.
 pub fn least_over(sheet: &Sheet, cuts: &[Vec<Vec<u32>>]) -> Result<Vec<Label>, (u64, u64)> {
+    let labels = least_ever(sheet, cuts)?;
+    if latency(sheet, &labels) > sheet.horizon { Err((7, 0)) } else { Ok(labels) }
+}
+
+/// Number and place of grounds 6 and 12, or the labels that are least under any horizon.
+pub fn least_ever(sheet: &Sheet, cuts: &[Vec<Vec<u32>>]) -> Result<Vec<Label>, (u64, u64)> {
     if let Some(v) = (0..sheet.nodes.len()).find(|&v| sheet.nodes[v].kind == 1 && cuts[v].is_empty()) {
         return Err((6, v as u64));
     }
+    let some = legal_ever(sheet, cuts).ok_or((12, 0))?;
     let mut labels = vec![(0, 0); sheet.nodes.len()];
     loop {
         let next: Vec<Label> = (0..labels.len()).map(|v| asked(sheet, cuts, &labels, v)).collect();
-        if next.iter().zip(&sheet.nodes).any(|(label, node)| label.0 + node.latency > sheet.horizon) {
-            return Err((7, 0));
-        }
+        assert!(next.iter().zip(&some).all(|(label, some)| label <= some), "least labels past legal ones: {sheet:?}");
         if next == labels {
             return Ok(labels);
         }

@@ -51,7 +51,7 @@ pub fn plan(sheet: &Sheet, labels: &[Label], latency: u32, chosen: &[Vec<u32>]) 
     bytes
 }
 
-/// The plan of these bytes, or the refusal by one of grounds 1 to 7.
+/// The plan of these bytes, or the refusal by one of grounds 1 to 7 and 12.
 pub fn planned(bytes: &[u8]) -> Result<Vec<u8>, Refusal> {
     let sheet = reader::read(bytes)?;
     let cuts = labels::fitting_cuts(&sheet);

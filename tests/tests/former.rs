@@ -2,8 +2,9 @@
 //! planning call on the same sheet rewritten with q = 0 in every node (document 02, U5).
 #![cfg(planner)]
 use maps_tests::buffer::{after, lent};
+use maps_tests::compare::Met;
 use maps_tests::cones::{chosen, cuts};
-use maps_tests::labels::{plus, Label};
+use maps_tests::labels::{legal_ever, plus, Label};
 use maps_tests::library::{plan, Answer};
 use maps_tests::limits::{fields, Range, CODE, H, K, KIND, M, MARK, N, T};
 use maps_tests::made::{code, input, long, memories, ring, small, spelled, stairs, table, weight, Size};
@@ -97,7 +98,7 @@ fn asked(sheet: &Sheet, fitting: &[Vec<u32>], labels: &[Label], v: usize) -> Lab
     (s, l.max(node.delay))
 }
 
-/// The plan of a sheet of document 01's form, or the refusal by 6 or 7.
+/// The plan of a sheet of document 01's form, or the refusal by 6, 12 or 7.
 fn planned(sheet: &Sheet) -> Result<Vec<u8>, Refusal> {
     let logic = |v: usize| sheet.nodes[v].kind == 1;
     let ids = 0..sheet.nodes.len();
@@ -105,6 +106,10 @@ fn planned(sheet: &Sheet) -> Result<Vec<u8>, Refusal> {
     let fitting: Vec<Vec<Vec<u32>>> = ids.clone().map(|v| if logic(v) { fitting_of(v) } else { Vec::new() }).collect();
     if let Some(v) = ids.clone().find(|&v| logic(v) && fitting[v].is_empty()) {
         return Err((6, v as u64));
+    }
+    // With q = 0 in every node the ready label is document 01's.
+    if legal_ever(sheet, &fitting).is_none() {
+        return Err((12, 0));
     }
     let (mut labels, mut before) = (vec![(0, 0); ids.len()], Vec::new());
     while labels != before {
@@ -122,7 +127,7 @@ fn planned(sheet: &Sheet) -> Result<Vec<u8>, Refusal> {
 }
 
 /// Holds the planning call on the rewritten sheet to the plan in document 01's form, in several rooms; gives what came of it.
-fn keeps(old: &[u8], met: &mut [u32; 9]) -> Result<Vec<u8>, Refusal> {
+fn keeps(old: &[u8], met: &mut Met) -> Result<Vec<u8>, Refusal> {
     let (sheet, numbers) = read(old);
     let bytes = spelled(&numbers);
     assert_eq!(bytes.len(), old.len() + sheet.nodes.len());
@@ -143,7 +148,7 @@ fn keeps(old: &[u8], met: &mut [u32; 9]) -> Result<Vec<u8>, Refusal> {
 fn made_up_sheets_keep_their_plans() {
     println!("seed {SEED}");
     let mut random = Random::new(SEED);
-    let mut met = [0; 9];
+    let mut met = Met::default();
     // Plans with a node that reads a box with a latency, where q would enter.
     let mut read_late = 0;
     for round in 0..24000 {
@@ -161,12 +166,12 @@ fn made_up_sheets_keep_their_plans() {
         read_late += u32::from(found.is_ok() && sheet.nodes.iter().any(|node| node.operands.iter().any(late)));
     }
     println!("calls by number: {met:?}, plans with a reader of a box with a latency: {read_late}");
-    assert!([0, 6, 7, 8].iter().all(|&number| met[number] > 2000) && read_late > 2000, "{met:?}, {read_late}");
+    assert!([0, 6, 7, 8, 12].iter().all(|&number| met[number] > 2000) && read_late > 2000, "{met:?}, {read_late}");
 }
 
 #[test]
 fn the_sheets_of_document_01_keep_their_plans() {
-    let kept = |old: &[u8]| keeps(old, &mut [0; 9]);
+    let kept = |old: &[u8]| keeps(old, &mut Met::default());
     let bytes = |text: &str| -> Vec<u8> { text.split_whitespace().map(|byte| u8::from_str_radix(byte, 16).expect("a byte")).collect() };
     // The hall sheet and its plan, as they stand there.
     let zeros = "00 00 00 00 00";
@@ -182,7 +187,7 @@ fn the_sheets_of_document_01_keep_their_plans() {
     };
     assert_eq!(kept(&with(2, 1)), Ok(plan.clone()));
     assert_eq!(kept(&with(2, 0)), Err((7, 0)));
-    for (difference, expected) in [([5, 0, 1], Ok(plan.clone())), ([5, 0, 0], Err((7, 0))), ([2, 2, 0], Ok(plan)), ([2, 2, 2], Err((7, 0)))] {
+    for (difference, expected) in [([5, 0, 1], Ok(plan.clone())), ([5, 0, 0], Err((12, 0))), ([2, 2, 0], Ok(plan)), ([2, 2, 2], Err((12, 0)))] {
         assert_eq!(kept(&[&with(4, 2)[..], &difference].concat()), expected);
     }
     let bare = with(4, 0)[..41].to_vec();

@@ -237,7 +237,7 @@ fn ladder(inputs: u32) -> Sheet {
 fn the_bound_is_enough_for_deep_sheets() {
     let planning = || {
         let mut random = Random::new(20260105);
-        let mut met = [0; 9];
+        let mut met = [0; 13];
         let chains = [4_095, H.1].into_iter().flat_map(|far| (0..20).map(move |slow| chain(slow, far)));
         let sheets = (1..40).map(ladder).chain((0..20).map(|_| greatest(&mut random))).chain(chains);
         for sheet in sheets.collect::<Vec<_>>() {

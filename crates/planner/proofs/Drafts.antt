@@ -27,6 +27,8 @@ use Rattle.maps.specs.Limits.{leavesRange, horizonRange}
 use Rattle.cover.specs.Cover.{Covered}
 use Rattle.writing.specs.Bytes.{Small, flatPlan}
 use Rattle.writing.proofs.PlanBytes.{plan-bytes}
+use Rattle.timing.specs.Timing.{Times, is-never, is-late, is-in-time}
+use Rattle.timing.specs.declared.Timing.the-variants as Is
 use Rattle.planner.specs.Call.{Own}
 
 -- a logic node with a legal label has a cut that carries it
@@ -100,7 +102,7 @@ given h =
       count = ap (λ (x : Header). x .differences) (h .headed);
     }
 
--- what least labels come to
+-- what the answer about the horizon comes to
 module _ {S : Sheet} {graph differences : List ℕ} {limits : R.Header} (steps levels : List ℕ) (g : Given S graph differences limits) (own : Own S limits) where
   abbrev labels : List Label
   labels = labelsIn (limits .nodes) steps levels
@@ -108,24 +110,27 @@ module _ {S : Sheet} {graph differences : List ℕ} {limits : R.Header} (steps l
   nodes-are : labels ≡ labelsIn (size S) steps levels
   nodes-are = ap (λ (n : ℕ). labelsIn n steps levels) (g .nodes)
 
-  module _ (e : leastEver S ≡ least labels) where
-    pub late-outcome : inTime S labels (limits .horizon) ≡ false → (room : ℕ) → timed S room (leastEver S) ≡ refusal 7 0
-    late-outcome q room = ap (timed S room) e ∙ ap (λ (b : Bool). cond b (within room (plan S labels)) (refusal 7 0)) (ap (inTime S labels) (sym own) ∙ q)
+  -- the outcome of least labels, by whether they are in time
+  tested : leastEver S ≡ least labels → (b : Bool) → inTime S labels (limits .horizon) ≡ b → (room : ℕ)
+      → timed S room (leastEver S) ≡ cond b (within room (plan S labels)) (refusal 7 0)
+  tested e b q room = ap (timed S room) e ∙ ap (λ (t : Bool). cond t (within room (plan S labels)) (refusal 7 0)) (ap (inTime S labels) (sym own) ∙ q)
 
-    -- the labels are legal, and p is their plan
-    module _ (q : inTime S labels (limits .horizon) ≡ true) where
-      timely : inTime S labels (S .horizon) ≡ true
-      timely = ap (inTime S labels) (sym own) ∙ q
+  pub never-outcome : Times S (limits .horizon) labels Is.Never → (room : ℕ) → timed S room (leastEver S) ≡ refusal 12 0
+  never-outcome (is-never e) room = ap (timed S room) e
 
-      pub found-legal : cutless S ≡ [] → Legal S (at (labelsIn (size S) steps levels)) (S .horizon)
-      found-legal cuts =
-          subst (λ (L : List Label). Legal S (at L) (S .horizon)) nodes-are
-          (in-time S (g .well) cuts labels (ever-least S (g .well) cuts labels e) (S .horizon) timely .legal)
+  pub late-outcome : Times S (limits .horizon) labels Is.Late → (room : ℕ) → timed S room (leastEver S) ≡ refusal 7 0
+  late-outcome (is-late e q) = tested e false q
 
-      pub found-outcome : (p : List ℕ) → p ≡ plan S (labelsIn (size S) steps levels) → (room : ℕ) → timed S room (leastEver S) ≡ within room p
-      found-outcome p r room =
-          ap (timed S room) e ∙ ap (λ (b : Bool). cond b (within room (plan S labels)) (refusal 7 0)) timely
-          ∙ ap (λ (L : List Label). within room (plan S L)) nodes-are ∙ ap (within room) (sym r)
+  -- p is the plan of labels in time, which are legal
+  pub found-outcome : Times S (limits .horizon) labels Is.InTime → (p : List ℕ) → p ≡ plan S (labelsIn (size S) steps levels) → (room : ℕ)
+      → timed S room (leastEver S) ≡ within room p
+  found-outcome (is-in-time e q) p r room =
+      tested e true q room ∙ ap (λ (L : List Label). within room (plan S L)) nodes-are ∙ ap (within room) (sym r)
+
+  pub found-legal : cutless S ≡ [] → Times S (limits .horizon) labels Is.InTime → Legal S (at (labelsIn (size S) steps levels)) (S .horizon)
+  found-legal cuts (is-in-time e q) =
+      subst (λ (L : List Label). Legal S (at L) (S .horizon)) nodes-are
+      (in-time S (g .well) cuts labels (ever-least S (g .well) cuts labels e) (S .horizon) (ap (inTime S labels) (sym own) ∙ q) .legal)
 
 -- every logic node has a fitting cut, which is kept
 pub all-cut : {S : Sheet} {graph differences kept : List ℕ} {limits : R.Header} {r : ℕ} → Given S graph differences limits

@@ -9,7 +9,7 @@ ghost use Rattle.maps.specs.Outcome.{cutless};
 ghost use Rattle.rows.specs.Table.{Tabled};
 ghost use Rattle.bound.specs.Lookup.{labelsIn, Soon};
 ghost use Rattle.bound.specs.Going.{Given, AllKept};
-ghost use Rattle.timing.specs.Timing.{Times};
+ghost use Rattle.timing.specs.Timing.{Far, Times};
 use bound::Levels;
 use bound::Steps;
 use bound::ready_step;
@@ -30,19 +30,32 @@ pub enum Timing {
 // No ready label of least labels is later, whatever the sheet: 255 differences of 65,535 one after the other, and a latency of 255.
 const FARTHEST: u32 = 16711680;
 
+// The limits with a horizon that no least label passes.
+pub fn far_limits(limits: Header) -> Header
+    ensures { λ r. ⌜ Far limits r ⌝ }
+{
+    Header {
+        leaves: limits.leaves,
+        top: limits.top,
+        horizon: FARTHEST,
+        nodes: limits.nodes,
+        differences: limits.differences,
+    }
+}
+
 // Whether the ready labels of n nodes are within the horizon.
 pub fn in_time(graph: &Graph, steps: &Steps, n: u32, horizon: u32) -> bool
     requires { ⌜ n ≤ 256 ⌝ }
     requires { ⌜ ((u : ℕ) → u < n → Soon (now graph) (now steps) u) ⌝ }
     ensures { λ r. ⌜ ((S : Sheet) (levels : List ℕ) → Tabled S (now (graph .entry)) → n ≡ size S → inTime S (labelsIn n (now (steps .entry)) levels) horizon ≡ r) ⌝ }
 {
-    let mut u: u32 = 0;
-    while u < n {
-        let ready = ready_step(graph, steps, u);
+    let mut v: u32 = 0;
+    while v < n {
+        let ready = ready_step(graph, steps, v);
         if ready.0 > horizon {
             return false;
         }
-        u += 1;
+        v += 1;
     }
     true
 }
@@ -61,13 +74,7 @@ pub fn time_labels(
     ensures { λ r. ⌜ ((S : Sheet) → Given S (now (graph .entry)) (now (differences .entry)) limits → AllKept S (now (kept .entry)) → cutless S ≡ []
         → Times S (limits .horizon) (labelsIn (limits .nodes) (now (steps .exit)) (now (levels .exit))) r) ⌝ }
 {
-    let far = Header {
-        leaves: limits.leaves,
-        top: limits.top,
-        horizon: FARTHEST,
-        nodes: limits.nodes,
-        differences: limits.differences,
-    };
+    let far = far_limits(limits);
     if !least_labels(graph, differences, far, kept, steps, levels) {
         return Timing::Never;
     }

@@ -1,10 +1,10 @@
-//! Times the planning call on sheets of 16 to 256 nodes of several kinds or, where files are named, on the sheets in them. With the feature
-//! `before` another version of the library stands beside it, with `sketch` the unproved sketch.
+//! Times the planning call on sheets of 16 to 256 nodes of several kinds, and on the same sheets at three horizons, or, where files are named, on
+//! the sheets in them. With the feature `before` another version of the library stands beside it, with `sketch` the unproved sketch.
 #![cfg_attr(not(planner), allow(dead_code, unused_mut))]
-use maps_tests::limits::H;
+use maps_tests::limits::{H, W};
 use maps_tests::made::{numbers, spelled};
 use maps_tests::random::Random;
-use maps_tests::reader::{Difference, Node, Sheet};
+use maps_tests::reader::{read, Difference, Node, Sheet};
 use std::time::Instant;
 
 /// How many sheets of a kind and size are timed.
@@ -175,41 +175,95 @@ fn running(random: &mut Random, n: u32) -> Sheet {
     ring(random, n, 200)
 }
 
-/// How often each call plans a sheet.
-const RUNS: u32 = 12;
+/// A ring that gains a step a turn by its levels alone: no w is above 0. With T = 1 boxes and tables in turn are each a step after the one below, and
+/// a difference leads back one step less.
+fn rising(random: &mut Random, n: u32) -> Sheet {
+    let mut sheet = sheet(n, 1, |own| {
+        let mut node = table(random, own, 3, 6, 1);
+        node.operands[0] = own - 1;
+        node.kind = 1 + own % 2;
+        node
+    });
+    sheet.differences.push(Difference { from: n - 1, to: 6, weight: 8 - n as i32 });
+    sheet
+}
 
-/// For each call the least time of its runs, in microseconds, and the number given. The calls take turns, so that all meet the same machine, and
-/// each goes first as often, so that none always comes after the same other.
-fn times(calls: &[Call], bytes: &[u8]) -> Vec<(f64, u64)> {
-    let mut buffer = vec![0; 5000];
-    let mut best = vec![(f64::INFINITY, 0); calls.len()];
-    for run in 0..RUNS as usize {
-        for turn in 0..calls.len() {
-            let i = if run % 2 == 0 { (run + turn) % calls.len() } else { (run + calls.len() - turn) % calls.len() };
+/// The sheet with every w so many times as great. What is legal stays legal with every step as many times as late.
+fn stretched(mut sheet: Sheet, factor: i32) -> Sheet {
+    sheet.differences.iter_mut().for_each(|difference| difference.weight *= factor);
+    sheet
+}
+
+/// A deep chain with the greatest w from each node to the next: its last step is the latest that a least label has.
+fn latest(random: &mut Random, n: u32) -> Sheet {
+    let mut sheet = deep(random, n);
+    sheet.differences = (1..n).map(|to| Difference { from: to - 1, to, weight: W as i32 }).collect();
+    sheet
+}
+
+/// What makes a sheet of so many nodes.
+type Maker = fn(&mut Random, u32) -> Sheet;
+
+/// The sheets of a kind and size.
+fn sheets_of(make: Maker, n: u32) -> Vec<Sheet> {
+    (0..SHEETS).map(|seed| make(&mut Random::new(1000 * n as u64 + seed), n)).collect()
+}
+
+/// How often each call plans a sheet, at the least.
+const RUNS: usize = 12;
+
+/// For each call on its bytes the least time of its runs, in microseconds, and the number given. They take turns, so that all meet the same machine,
+/// and each goes first as often, so that none always comes after the same other.
+fn times(trials: &[(Call, &[u8])]) -> Vec<(f64, u64)> {
+    let (mut buffer, count) = (vec![0; 5000], trials.len());
+    let mut best = vec![(f64::INFINITY, 0); count];
+    for run in 0..RUNS.next_multiple_of(count) {
+        for turn in 0..count {
+            let i = if run % 2 == 0 { (run + turn) % count } else { (run + count - turn) % count };
+            let (call, bytes) = trials[i];
             let start = Instant::now();
-            best[i].1 = (calls[i].1)(std::hint::black_box(bytes), std::hint::black_box(&mut buffer)).0;
+            best[i].1 = call.1(std::hint::black_box(bytes), std::hint::black_box(&mut buffer)).0;
             best[i].0 = best[i].0.min(start.elapsed().as_secs_f64() * 1e6);
         }
     }
     best
 }
 
-/// One line: how many sheets are accepted, refused 6 and refused 7, then mean and worst of each call, and the ratio of the library's mean to each
-/// other call's.
-fn row(name: &str, sheets: &[Vec<u8>]) {
+/// A line for each form of the same sheets, given by its name and the sheets' bytes: how many are accepted and refused 6, 7 and 12, then mean and
+/// worst of each call, the ratio of the library's mean to each other call's and, where there are several forms, to its own mean for the last one.
+fn rows(forms: &[(String, Vec<Vec<u8>>)]) {
     let calls = calls();
-    let all: Vec<Vec<(f64, u64)>> = sheets.iter().map(|bytes| times(&calls, bytes)).collect();
-    let count = |number| all.iter().filter(|t| t[0].1 == number).count();
+    let trials = |sheet: usize| -> Vec<(Call, &[u8])> {
+        forms.iter().flat_map(|(_, sheets)| calls.iter().map(move |&call| (call, &sheets[sheet][..]))).collect()
+    };
+    let all: Vec<Vec<(f64, u64)>> = (0..forms[0].1.len()).map(|sheet| times(&trials(sheet))).collect();
     let mean = |i: usize| all.iter().map(|t| t[i].0).sum::<f64>() / all.len() as f64;
-    print!("{name:<34}{:>4} {:>4} {:>4}", count(0), count(6), count(7));
-    for (i, call) in calls.iter().enumerate() {
-        let worst = all.iter().fold(0.0, |most, t| f64::max(most, t[i].0));
-        print!("{:>13} {:>9.1} {worst:>9.1} us", call.0, mean(i));
+    for (own, (name, _)) in (0..).step_by(calls.len()).zip(forms) {
+        print!("{name:<36}");
+        for number in [0, 6, 7, 12] {
+            print!("{:>4} ", all.iter().filter(|t| t[own].1 == number).count());
+        }
+        for (i, call) in (own..).zip(&calls) {
+            let worst = all.iter().fold(0.0, |most, t| f64::max(most, t[i].0));
+            print!("{:>12} {:>9.1} {worst:>9.1} us", call.0, mean(i));
+        }
+        let others = own + 1..own + calls.len();
+        let last = (forms.len() > 1).then_some((forms.len() - 1) * calls.len());
+        others.chain(last).for_each(|i| print!("{:>8.2}", mean(own) / mean(i)));
+        println!();
     }
-    for i in 1..calls.len() {
-        print!("{:>8.2}", mean(0) / mean(i));
-    }
-    println!();
+}
+
+/// The lines of sheets at three horizons: one that few keep, one of two bytes and the greatest.
+fn horizon_rows(name: &str, sheets: &[Sheet]) {
+    let at = |horizon| sheets.iter().map(|sheet| spelled(&numbers(&Sheet { horizon, ..sheet.clone() }))).collect();
+    rows(&[1, 4_095, H.1].map(|horizon| (format!("{name}, H = {horizon}"), at(horizon))));
+}
+
+/// A sheet of `tests/sheets`.
+fn stored(name: &str) -> Sheet {
+    let path = format!("{}/sheets/{name}.sheet", env!("CARGO_MANIFEST_DIR"));
+    read(&std::fs::read(path).expect("a stored sheet")).expect("a sheet that reads")
 }
 
 fn main() {
@@ -220,13 +274,13 @@ fn main() {
     let files: Vec<String> = std::env::args().skip(1).collect();
     for path in &files {
         let bytes = std::fs::read(path).expect("the file that is named");
-        row(path.rsplit('/').next().unwrap(), &[bytes]);
+        rows(&[(path.rsplit('/').next().unwrap().to_string(), vec![bytes])]);
     }
     if !files.is_empty() {
         return;
     }
-    println!("{:<34}{:>4} {:>4} {:>4}{:>13} {:>9} {:>9}", "sheets", "0", "6", "7", "", "mean", "worst");
-    let kinds: [(&str, fn(&mut Random, u32) -> Sheet); 9] = [
+    println!("{:<36}{:>4} {:>4} {:>4} {:>4}{:>13} {:>9} {:>9}", "sheets", "0", "6", "7", "12", "", "mean", "worst");
+    let kinds: [(&str, Maker); 9] = [
         ("wide logic", wide),
         ("wide rules", rules),
         ("deep chains", deep),
@@ -239,14 +293,33 @@ fn main() {
     ];
     for (name, make) in kinds {
         for n in [16, 64, 128, 256] {
-            let sheets: Vec<Vec<u8>> = (0..SHEETS).map(|seed| spelled(&numbers(&make(&mut Random::new(1000 * n as u64 + seed), n)))).collect();
-            row(&format!("{name}, {n} nodes"), &sheets);
+            let sheets = sheets_of(make, n).iter().map(|sheet| spelled(&numbers(sheet))).collect();
+            rows(&[(format!("{name}, {n} nodes"), sheets)]);
         }
     }
-    // Within each of these horizons a ring of 60 steps has room for many turns.
-    for horizon in [100, 4_095, H.1] {
-        let never = |seed| Sheet { horizon, ..ring(&mut Random::new(seed), 256, 60) };
-        let sheets: Vec<Vec<u8>> = (0..SHEETS).map(|seed| spelled(&numbers(&never(seed)))).collect();
-        row(&format!("rings off horizon {horizon}"), &sheets);
+    println!("\nThe same sheets at three horizons, of 256 nodes or stored; the last column is the ratio to the mean at H = {}.", H.1);
+    let kinds: [(&str, Maker); 12] = [
+        // Late at the first horizon and accepted at the others; some of the rings are never legal.
+        ("boxes with latency", boxes),
+        ("boxes with latency and q", late_boxes),
+        ("differences forward", forward),
+        ("differences backward", backward),
+        ("rings that hold", holding),
+        // Late at all three; some of the rings are never legal.
+        ("long forward", |random, n| stretched(forward(random, n), 7_000)),
+        ("long backward", |random, n| stretched(backward(random, n), 7_000)),
+        ("long rings that hold", |random, n| stretched(holding(random, n), 7_000)),
+        ("the latest steps", latest),
+        // Never legal.
+        ("rings of 60 steps", |random, n| ring(random, n, 60)),
+        ("rings of 65535 steps", |random, n| ring(random, n, W as i32)),
+        ("rings by levels", rising),
+    ];
+    for (name, make) in kinds {
+        horizon_rows(name, &sheets_of(make, 256));
+    }
+    // The first is late at the first horizon and accepted at the others, the other two are never legal.
+    for name in ["rises", "zigzag", "costly-cuts"] {
+        horizon_rows(name, &[stored(name)]);
     }
 }
