@@ -10,7 +10,10 @@
  *  - The sheet, the records or the text are only read. Nothing else of the caller's memory is read or written.
  *
  * Promised of maps_plan:
- *  - It refuses with 1 to 8. If several grounds hold: 1 to 4 at the first number in the sheet that fails, spelling before value; then 5, 6, 7, 8.
+ *  - It refuses with 1 to 8 and 12. If several grounds hold: 1 to 4 at the first number in the sheet that fails, spelling before value; then 5, 6,
+ *    12, 7, 8.
+ *  - Refused for time, by 7 or 12, is exactly the sheet that has no legal labels within H. 7: a larger H would do, or would if H could be larger than
+ *    65,535. 12: no horizon would, some wishes of the sheet clash, and raising H never helps.
  *  - The labels of a plan are the least legal ones, and the cuts are the chosen ones under those labels.
  *
  * Promised of maps_write:
@@ -75,12 +78,13 @@ enum maps_number {
     MAPS_OPERAND = 4,      /* an operand id is not below the node's own; place: that number */
     MAPS_BYTES_FOLLOW = 5, /* bytes follow the last number; place: the first of them */
     MAPS_NO_CUT = 6,       /* a logic node has no fitting cut; place: the lowest such id */
-    MAPS_LATE = 7,         /* no legal labelling within H; place: 0 */
+    MAPS_LATE = 7,         /* no legal labelling within H, but within a larger horizon; place: 0 */
     MAPS_BUFFER_SHORT = 8, /* the buffer is shorter than what would be written; place: that length */
     MAPS_SUBSET = 9,       /* a line outside the subset or a row of wrong width; place: the line, from 1, and of joined lines the first; a missing
                             * .end: one line past the last */
     MAPS_NAME = 10,        /* a name read before it is defined, defined twice or put out without definition; place: the line */
-    MAPS_LIMIT = 11        /* a limit; place: the line, 0 for the caller's numbers and for a text longer than MAPS_TEXT_MOST */
+    MAPS_LIMIT = 11,       /* a limit; place: the line, 0 for the caller's numbers and for a text longer than MAPS_TEXT_MOST */
+    MAPS_NEVER = 12        /* no legal labelling under any horizon; place: 0 */
 };
 
 /* Plans a sheet into a buffer. */
@@ -207,6 +211,7 @@ static inline const char *maps_text(uint64_t number) {
     case MAPS_SUBSET: return "a line outside the subset or a row of wrong width";
     case MAPS_NAME: return "a name read before it is defined, defined twice or put out without definition";
     case MAPS_LIMIT: return "a limit (256 nodes, 6 operands, names of 31 bytes, d above T, caller's numbers out of range)";
+    case MAPS_NEVER: return "no legal labelling under any horizon";
     default: return "no number of the documents";
     }
 }

@@ -370,7 +370,7 @@ static void longest(void) {
     check(written(length - 1, MAPS_BUFFER_SHORT, length, NULL), "8: the longest sheet, one byte short");
     uint8_t sheet[MAPS_SHEET_MOST];
     struct maps_answer answer = maps_write(&records, sheet, sizeof sheet);
-    check(maps_accepted(answer) && same(maps_plan_length(sheet, (size_t)answer.place), MAPS_LATE, 0), "the longest sheet reads");
+    check(maps_accepted(answer) && same(maps_plan_length(sheet, (size_t)answer.place), MAPS_NEVER, 0), "the longest sheet reads");
     /* Without a w that is above 0 box v is at step 256 v, since q leaves no level for a reader: one byte at node 0, two up to node 63, three from
      * there. The last box is ready at H. */
     for (size_t i = 0; i < 1024; i += 2) {

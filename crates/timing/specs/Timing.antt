@@ -15,8 +15,8 @@ use Rattle.timing.specs.declared.Timing.the-variants as Is
 pub record Far (limits far : R.Header) : Type 0 where
   pub leaves : far .leaves ≡ limits .leaves
   pub top : far .top ≡ limits .top
-  pub near : far .horizon ≤ reachMost
   pub farthest : reachMost ≤ far .horizon
+  pub near : far .horizon ≤ reachMost
   pub nodes : far .nodes ≡ limits .nodes
   pub differences : far .differences ≡ limits .differences
 
