@@ -1,7 +1,7 @@
 // The importer, under document 02's words for it.
 ghost use lib.ListN.{length};
 ghost use Rattle.blif.specs.Limits.{caller};
-ghost use Rattle.customer.specs.Imports.{Imports, ImportBounded};
+ghost use Rattle.demands.specs.Imports.{Imports, ImportBounded};
 use bytes::Answer;
 use planner::maps_import;
 

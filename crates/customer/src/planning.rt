@@ -1,8 +1,8 @@
 // The planning call, under the customer's three demands.
 ghost use lib.ListN.{length};
-ghost use Rattle.customer.specs.Demands.{Demand-1, Demand-2, Demand-3};
-ghost use Rattle.customer.specs.Bounds.{Bounded};
-ghost use Rattle.customer.specs.Keeping.{PlanKept};
+ghost use Rattle.demands.specs.Demands.{Demand-1, Demand-2, Demand-3};
+ghost use Rattle.demands.specs.Bounds.{Bounded};
+ghost use Rattle.demands.specs.Keeping.{PlanKept};
 use bytes::Answer;
 use planner::maps_plan;
 

@@ -1,6 +1,6 @@
 // The calls for tests and benchmarks.
 ghost use Rattle.probe.specs.Probe.{HasCut, CutAnswer};
-ghost use Rattle.customer.specs.Reading.{Reads};
+ghost use Rattle.demands.specs.Reading.{Reads};
 use probe::ReadAnswer;
 use probe::maps_cut;
 use probe::maps_has_cut;

@@ -1,7 +1,7 @@
 // The sheet writer, under document 02's words for it.
 ghost use lib.ListN.{length};
 ghost use Rattle.records.specs.Rows.{recordsIn};
-ghost use Rattle.customer.specs.Stores.{Stores, StoreBounded};
+ghost use Rattle.demands.specs.Stores.{Stores, StoreBounded};
 use bytes::Answer;
 use planner::maps_write_rows;
 

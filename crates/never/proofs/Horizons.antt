@@ -18,9 +18,8 @@ use Rattle.maps.proofs.Over.{all-below, all-fails}
 use Rattle.maps.proofs.Fix.{unique, is-least, is-late}
 use Rattle.maps.proofs.Planned.{least-right}
 use Rattle.relax.proofs.Closed.{Closed, well-closed}
-use Rattle.relax.proofs.Guard.{legal-node, legal-diffs, ok-legal}
 use Rattle.never.specs.Ever as E
-use Rattle.never.proofs.Reach.{least-reach}
+use Rattle.never.proofs.Reach.{least-within, least-reach}
 
 ever-is : (S : Sheet) → leastEver S ≡ leastWithin S (reach S)
 unfolding leastEver
@@ -57,11 +56,8 @@ module _ (S : Sheet) (well : WellFormed S) (cuts : cutless S ≡ []) where
   module _ (L : List Label) (h : Least S (reach S) (at L)) (H : ℕ) where
     pub in-time : inTime S L H ≡ true → Least S H (at L)
     in-time e =
-        record {
-          legal = ok-legal S (at L) closed H (λ v l. legal-node S (at L) (h .legal) v l) (λ v l. legal-diffs S (at L) (h .legal) v)
-              (λ v l. leb-true _ _ (all-below (λ v. leb (at L v .step + latency S v) H) (size S) e v l));
-          least = h .least;
-        }
+        least-within S (reach S) H (at L) h
+        (λ v l. leb-true _ _ (all-below (λ v. leb (at L v .step + latency S v) H) (size S) e v l))
 
     pub past : inTime S L H ≡ false → (v : ℕ) × (v < size S) × (H < at L v .step + latency S v)
     past e =
@@ -122,8 +118,5 @@ module _ (S : Sheet) (well : WellFormed S) (cuts : cutless S ≡ []) where
       go : {r : Labels} → E.Ever S r → leastWithin S G ≡ r
       go (E.never h) = is-late S G (least-right S well cuts G) (h G)
       go (E.some {L} n h) =
-          is-least S G (least-right S well cuts G) L n (record {
-            legal = ok-legal S (at L) closed G (λ v l. legal-node S (at L) (h .legal) v l) (λ v l. legal-diffs S (at L) (h .legal) v)
-                (λ v l. omega (arith, h .legal .nodes v l .ends));
-            least = h .least;
-          })
+          is-least S G (least-right S well cuts G) L n
+          (least-within S (reach S) G (at L) h (λ v l. omega (arith, h .legal .nodes v l .ends)))

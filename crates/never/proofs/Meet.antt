@@ -4,7 +4,7 @@
 -- node of X, and the least label at every other. Each node has its label from one of the two, which keeps the node's conditions, and the others
 -- have moved back at the most; a condition asks no more where those are earlier. So this labelling is legal, within the same horizon, and the least
 -- labels are nowhere after it. In X it is nowhere after Q.
-use Prim.Native.Nat.{ℕ, _+_, _≤_, _<_}
+use Prim.Native.Nat.{ℕ, _≤_, _<_}
 use mathlib.Core.Path.{_≡_, refl, sym, subst, ap}
 use mathlib.Core.Bool.{Bool, true, false, cond}
 use mathlib.Core.Logic.{_⊎_, inl, inr}

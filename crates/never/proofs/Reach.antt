@@ -13,7 +13,7 @@ use Rattle.maps.specs.Legal.{Least}
 use Rattle.maps.specs.Least.{climb, reach}
 use Rattle.maps.proofs.Member.{below-in, below-out, greatest-from, greatest-most}
 use Rattle.relax.proofs.Closed.{Closed, latency-most}
-use Rattle.relax.proofs.Guard.{legal-node, legal-diffs, ok-legal}
+use Rattle.relax.proofs.Guard.{legal-node}
 use Rattle.relax.proofs.Forced.{ok-after}
 use Rattle.relax.proofs.Afloat.{floats-never}
 use Rattle.relax.specs.Hold.{Held}
@@ -47,6 +47,18 @@ reach-most S well =
     let b : (size S - 1) * weightMost ≤ 255 * weightMost = mul-le-mul-right {m = size S - 1} {n = 255} weightMost few in
     omega (arith, greatest-most (latency S) latencyMost (below (size S)) (λ u m. latency-most S well u))
 
+-- least labels are least within every horizon that they end within
+pub least-within : (S : Sheet) (G H : ℕ) (L : ℕ → Label) → Least S G L → ((v : ℕ) → v < size S → L v .step + latency S v ≤ H) → Least S H L
+least-within S G H L h ends =
+    record {
+      legal = record {
+        nodes = λ v l. let k = h .legal .nodes v l in
+            record { low = k .low; high = k .high; ends = ends v l; after = k .after; carried = k .carried };
+        differences = h .legal .differences;
+      };
+      least = h .least;
+    }
+
 module _ (S : Sheet) (closed : Closed S) (G : ℕ) (L : ℕ → Label) (h : Least S G L) where
   -- Why least labels are no later. They are guarded and legal. If some node floated, nothing would be legal (`floats-never`), but they are. So
   -- every node is held, and held steps are within n - 1 climbs (`held-bound`).
@@ -69,8 +81,4 @@ module _ (S : Sheet) (closed : Closed S) (G : ℕ) (L : ℕ → Label) (h : Leas
 
   -- least labels within any horizon are least within `reach`
   pub least-reach : Least S (reach S) L
-  least-reach =
-      record {
-        legal = ok-legal S L closed (reach S) (λ v l. legal-node S L (h .legal) v l) (λ v l. legal-diffs S L (h .legal) v) ends;
-        least = h .least;
-      }
+  least-reach = least-within S G (reach S) L h ends

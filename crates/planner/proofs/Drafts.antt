@@ -6,16 +6,15 @@ use mathlib.Core.List.{List, []}
 use native.Mathlib.Omega.{arith}
 use lib.ListN.{getD}
 use Rattle.maps.specs.Label.{Label, earliest}
-use Rattle.maps.specs.Sheet.{Sheet, Kind, input, logic, box, node, size, latency, isLogic}
+use Rattle.maps.specs.Sheet.{Sheet, size, latency}
 use Rattle.maps.specs.Cut.{logicNode}
-use Rattle.maps.specs.Legal.{Carried, CarryingCut, Legal, latencyOfAll}
+use Rattle.maps.specs.Legal.{CarryingCut, Legal, latencyOfAll}
 use Rattle.maps.specs.Least.{at, inTime, least, leastEver}
 use Rattle.maps.specs.Plan.{plan}
-use Rattle.maps.specs.Read.{Header, sheet, refused, parse}
-use Rattle.maps.specs.Outcome.{refusal, within, timed, cutless, covered, parsed, outcome}
-use Rattle.maps.proofs.Planned.{latency-in-time}
+use Rattle.maps.specs.Read.{Header}
+use Rattle.maps.specs.Outcome.{refusal, within, timed, cutless}
+use Rattle.maps.proofs.Planned.{latency-in-time, legal-carries}
 use Rattle.maps.proofs.Over.{getD-over}
-use Rattle.maps.proofs.Enumerate.{clash}
 use Rattle.rows.specs.Code.{headerMeant}
 use Rattle.rows.specs.declared.Header as R
 use Rattle.sheet.proofs.After.{Held}
@@ -30,15 +29,6 @@ use Rattle.writing.proofs.PlanBytes.{plan-bytes}
 use Rattle.timing.specs.Timing.{Times, is-never, is-late, is-in-time}
 use Rattle.timing.specs.declared.Timing.the-variants as Is
 use Rattle.planner.specs.Call.{Own}
-
--- a logic node with a legal label has a cut that carries it
-pub legal-carries : (S : Sheet) (L : ℕ → Label) (H : ℕ) → Legal S L H → (v : ℕ) → v < size S → logicNode S v ≡ true → CarryingCut S L v
-legal-carries S L H ok v l i = go (node S v .kind) i (ok .nodes v l .carried)
-  where
-    go : (x : Kind) → isLogic x ≡ true → Carried S L x v → CarryingCut S L v
-    go input e h = clash e
-    go logic e h = h
-    go (box lat q) e h = clash e
 
 -- labels that are legal within the horizon
 module _ {S : Sheet} {graph differences : List ℕ} {limits : R.Header} (steps levels : List ℕ) (k : Given S graph differences limits)
@@ -136,12 +126,3 @@ module _ {S : Sheet} {graph differences : List ℕ} {limits : R.Header} (steps l
 pub all-cut : {S : Sheet} {graph differences kept : List ℕ} {limits : R.Header} {r : ℕ} → Given S graph differences limits
     → Lowest S graph (limits .nodes) (limits .leaves) kept r → limits .nodes ≤ r → (cutless S ≡ []) × AllKept S kept
 all-cut g h l = h .none (g .well) (g .tabled) (g .nodes) (g .leaves) (omega (arith, h .most))
-
--- grounds 1 to 5, and a sheet that reads
-pub refused-outcome : (bytes : List ℕ) (k p : ℕ) → parse bytes ≡ refused k p → (room : ℕ) → outcome bytes room ≡ refusal k p
-unfolding outcome
-refused-outcome bytes k p e room = ap (parsed room) e
-
-pub sheet-outcome : (bytes : List ℕ) (S : Sheet) → parse bytes ≡ sheet S → (room : ℕ) → outcome bytes room ≡ covered S room (cutless S)
-unfolding outcome
-sheet-outcome bytes S e room = ap (parsed room) e

@@ -1,10 +1,9 @@
 -- The rounds of passes: how they begin, what each end of a round says, and that a round that is not the last moves a step.
-use Prim.Native.Nat.{ℕ, zero, suc, _+_, _-_, _*_, _≤_, _<_, max}
+use Prim.Native.Nat.{ℕ, zero, suc, _+_, _-_, _*_, _≤_, _<_}
 use mathlib.Core.Path.{_≡_, refl, sym, subst, ap, _∙_}
 use mathlib.Core.Bool.{Bool, true, false}
-use mathlib.Core.List.{List, [], _∷_, _++_, foldr}
+use mathlib.Core.List.{List, []}
 use native.Mathlib.Nat.{not-suc-le-zero}
-use native.Mathlib.Numerals.{add-one}
 use native.Mathlib.Omega.{arith}
 use native.Mathlib.Decide.{ℕ-discrete}
 use lib.Dec.{leb}
@@ -16,17 +15,16 @@ use Rattle.maps.specs.Limits.{weightMost}
 use Rattle.maps.specs.Label.{Label, label, _≼_}
 use Rattle.maps.specs.Lists.{All, below}
 use Rattle.maps.specs.WellFormed.{WellDifference}
-use Rattle.maps.specs.Sheet.{Sheet, Difference, node, size, latency, clockToQ}
+use Rattle.maps.specs.Sheet.{Sheet, Difference, node, size, latency}
 use Rattle.maps.specs.Cut.{reads}
-use Rattle.maps.specs.Legal.{readyOf, Least, latencyOfAll, NoneLegal}
+use Rattle.maps.specs.Legal.{Least, NoneLegal}
 use Rattle.maps.specs.Least.{at, leastWithin, late, least}
 use Rattle.maps.specs.Outcome.{cutless}
 use Rattle.maps.proofs.Over.{total, total-mono, total-longer, length-over, getD-over}
-use Rattle.maps.proofs.Member.{zeros-at, All-at, All-of, All-ids, All-get, mem-in, mem-out, index-mem, below-out}
+use Rattle.maps.proofs.Member.{zeros-at, All-at, All-ids, All-get, mem-in, mem-out, index-mem}
 use Rattle.maps.proofs.Fix.{label-path, is-least, is-late}
 use Rattle.maps.proofs.Planned.{delays, operands-below, least-right}
-use Rattle.maps.proofs.Order.{ready-step}
-use Rattle.rows.specs.Table.{delayIn, latencyIn, operandIn, fromIn, toIn, plusIn, minusIn, noDifference, differenceAt, Tabled}
+use Rattle.rows.specs.Table.{delayIn, latencyIn, operandIn, fromIn, toIn, plusIn, minusIn, noDifference, differenceAt}
 use Rattle.rows.specs.declared.Header as R
 use Rattle.rows.specs.Cells.{Ends}
 use Rattle.rows.proofs.Cells.{filled-more}

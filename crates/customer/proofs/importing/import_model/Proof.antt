@@ -1,7 +1,7 @@
 -- `importing::import_model` meets its contract.
 use borrow.Author.Needs.{needs}
 use Rattle.blif.specs.Limits.{caller}
-use Rattle.customer.proofs.Imports.{imports, import-bounded}
+use Rattle.demands.proofs.Imports.{imports, import-bounded}
 use Rattle.customer.proofs.importing.import_model.Statement.{statement}
 use Rattle.customer.proofs.importing.import_model.Tie as tie
 

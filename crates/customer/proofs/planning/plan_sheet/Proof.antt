@@ -2,9 +2,9 @@
 use native.Mathlib.Omega.{arith}
 use borrow.Author.Needs.{needs}
 use Rattle.maps.specs.Number.{Bytes}
-use Rattle.customer.proofs.Demands.{demand-1, demand-2, demand-3}
-use Rattle.customer.proofs.Bounds.{bounded}
-use Rattle.customer.proofs.Keeping.{plan-kept}
+use Rattle.demands.proofs.Demands.{demand-1, demand-2, demand-3}
+use Rattle.demands.proofs.Bounds.{bounded}
+use Rattle.demands.proofs.Keeping.{plan-kept}
 use Rattle.customer.proofs.planning.plan_sheet.Statement.{statement}
 use Rattle.customer.proofs.planning.plan_sheet.Tie as tie
 

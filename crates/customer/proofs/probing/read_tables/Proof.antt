@@ -2,7 +2,7 @@
 use native.Mathlib.Omega.{arith}
 use borrow.Author.Needs.{needs}
 use Rattle.maps.specs.Number.{Bytes}
-use Rattle.customer.proofs.Reading.{reads}
+use Rattle.demands.proofs.Reading.{reads}
 use Rattle.customer.proofs.probing.read_tables.Statement.{statement}
 use Rattle.customer.proofs.probing.read_tables.Tie as tie
 

@@ -1,7 +1,7 @@
 -- `storing::store_sheet` meets its contract.
 use borrow.Author.Needs.{needs}
 use Rattle.records.specs.Rows.{recordsIn}
-use Rattle.customer.proofs.Stores.{stores, store-bounded}
+use Rattle.demands.proofs.Stores.{stores, store-bounded}
 use Rattle.customer.proofs.storing.store_sheet.Statement.{statement}
 use Rattle.customer.proofs.storing.store_sheet.Tie as tie
 

@@ -1,8 +1,9 @@
 -- `call::make_plan` meets its contract.
 use mathlib.Core.Path.{_∙_}
 use borrow.Author.Needs.{needs}
+use Rattle.maps.proofs.Planned.{refused-outcome, sheet-outcome}
 use Rattle.sheet.proofs.After.{was-read, was-refused}
-use Rattle.planner.proofs.Drafts.{given, own, refused-outcome, sheet-outcome}
+use Rattle.planner.proofs.Drafts.{given, own}
 use Rattle.planner.proofs.call.make_plan.Statement.{statement}
 use Rattle.planner.proofs.call.make_plan.Tie as tie
 

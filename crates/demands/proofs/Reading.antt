@@ -11,7 +11,7 @@ use Rattle.maps.proofs.Written.{reads-parse, parse-reads}
 use Rattle.maps.proofs.Refusing.{parse-refuses, refuses-parse, refuses-number}
 use Rattle.sheet.specs.Answer.{readAfter, answerNumber, answerPlace}
 use Rattle.rows.proofs.Tables.{tabled, listed}
-use Rattle.customer.specs.Reading.{Reads}
+use Rattle.demands.specs.Reading.{Reads}
 
 pub reads : (bytes graph differences : List ℕ) (number place : ℕ) (graph′ differences′ : List ℕ) → Bytes bytes
     → (number ≡ answerNumber (readAfter (parse bytes) graph differences .answer))

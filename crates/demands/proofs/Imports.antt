@@ -32,10 +32,10 @@ use Rattle.blif.proofs.Sheets.{callable-of}
 use Rattle.blif.proofs.Places.{Place, caller's, text's, places}
 use Rattle.blif.proofs.ImportLaws.{import-laws}
 use Rattle.bytes.specs.Outcome.{Answered}
-use Rattle.customer.specs.Answers.{Written, Refused}
-use Rattle.customer.specs.Stores.{mapsSheetMost}
-use Rattle.customer.specs.Imports.{Imported, Imports, ImportBounded}
-use Rattle.customer.proofs.Answers.{accepts, refuses, untouched}
+use Rattle.demands.specs.Answers.{Written, Refused}
+use Rattle.demands.specs.Stores.{mapsSheetMost}
+use Rattle.demands.specs.Imports.{Imported, Imports, ImportBounded}
+use Rattle.demands.proofs.Answers.{accepts, refuses, untouched}
 
 -- bytes that have room, and bytes that have not
 within-fits : (room : ℕ) (p : List ℕ) → length p ≤ room → within room p ≡ accepted p

@@ -19,9 +19,9 @@ use Rattle.maps.proofs.Written.{reproduced, meant-spelling}
 use Rattle.maps.proofs.WrittenSize.{sheet-most, numbers-most}
 use Rattle.maps.proofs.WriteLaws.{writer-laws}
 use Rattle.bytes.specs.Outcome.{Answered}
-use Rattle.customer.specs.Answers.{Written, Refused}
-use Rattle.customer.specs.Stores.{Stores, mapsSheetMost, StoreBounded}
-use Rattle.customer.proofs.Answers as A
+use Rattle.demands.specs.Answers.{Written, Refused}
+use Rattle.demands.specs.Stores.{Stores, mapsSheetMost, StoreBounded}
+use Rattle.demands.proofs.Answers as A
 
 module _ (R : Records) (buffer : List ℕ) (number place : ℕ) (after : List ℕ) (is : Answered (writing R (length buffer)) number place buffer after) where
   accepts : (bytes : List ℕ) → writing R (length buffer) ≡ accepted bytes → Written buffer number place after bytes

@@ -6,7 +6,7 @@ use lib.ListN.{length}
 use Rattle.maps.specs.Outcome.{Outcome, outcome}
 use Rattle.bytes.specs.Outcome.{Answered}
 use Rattle.former.proofs.Rewriting.{keeps}
-use Rattle.customer.specs.Keeping.{PlanKept}
+use Rattle.demands.specs.Keeping.{PlanKept}
 
 pub plan-kept : (bytes buffer : List ℕ) (number place : ℕ) (after : List ℕ) → Answered (outcome bytes (length buffer)) number place buffer after
     → PlanKept bytes buffer number place after

@@ -11,7 +11,7 @@ use Rattle.maps.specs.Number.{values, encoded}
 use Rattle.maps.specs.Reading.{ReadsAs, Refuses}
 use Rattle.maps.specs.Records.{Records, sheetMeant, recordsOf}
 use Rattle.maps.specs.Write.{Passes, First, numbers, valuesOf, spelled, spelling}
-use Rattle.customer.specs.Answers.{Written, Refused}
+use Rattle.demands.specs.Answers.{Written, Refused}
 
 module _ (R : Records) (buffer : List ℕ) (number place : ℕ) (after : List ℕ) where
   pub record Stores : Type 0 where

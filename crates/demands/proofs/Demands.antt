@@ -6,7 +6,7 @@ use mathlib.Core.List.{List, [], _∷_, _++_, List·Memᴰ, List·Memᴰ·head, 
 use mathlib.Core.Logic.{_⊎_, inl, inr}
 use native.Mathlib.Omega.{arith}
 use lib.Dec.{leb, ltb, eqb}
-use lib.ListN.{length, take, drop}
+use lib.ListN.{length, take}
 use borrow.Author.Tests.{leb-true, leb-false, le-leb, lt-leb, ltb-true, ltb-false, eqb-true}
 use Rattle.maps.specs.Lists.{mem, keep, below}
 use Rattle.maps.specs.Label.{Label}
@@ -20,7 +20,7 @@ use Rattle.maps.specs.Number.{Bytes}
 use Rattle.maps.specs.Read.{Parsed, sheet, refused, parse}
 use Rattle.maps.specs.Reading.{ReadsAs}
 use Rattle.maps.specs.WellFormed.{WellFormed}
-use Rattle.maps.specs.Outcome.{Outcome, accepted, refusal, within, timed, cutless, covered, outcome, outcomeNumber, outcomePlace, bufferAfter}
+use Rattle.maps.specs.Outcome.{Outcome, accepted, refusal, within, timed, cutless, covered, outcome, outcomeNumber, outcomePlace}
 use Rattle.maps.proofs.Over.{and-true}
 use Rattle.maps.proofs.Member.{keep-in, below-in, keep-append}
 use Rattle.maps.proofs.Enumerate.{clash, complete, sound}
@@ -28,13 +28,12 @@ use Rattle.maps.proofs.Chosen.{chosen-is}
 use Rattle.maps.proofs.UsedNodes.{used-in, used-complete, used-sound}
 use Rattle.maps.proofs.Written.{reads-parse, parse-reads}
 use Rattle.maps.proofs.Refusing.{parse-refuses, refuses-parse, refuses-number}
-use Rattle.maps.proofs.Planned.{ordered, latency-least}
+use Rattle.maps.proofs.Planned.{ordered, latency-least, legal-carries, refused-outcome, sheet-outcome}
 use Rattle.never.specs.Ever.{Ever, never, some}
 use Rattle.never.proofs.Horizons.{ever-right, in-time, longer, is-never, is-longer, is-in-time}
-use Rattle.customer.specs.Demands.{AllCut, LowestCutless, LeastLabels, Ground, unread, uncut, tooLate, tooShort, planned, Covers, Demand-1, Planned, Demand-2, LeastPlan, Demand-3}
+use Rattle.demands.specs.Demands.{AllCut, LowestCutless, LeastLabels, Ground, unread, uncut, tooLate, tooShort, planned, Covers, Demand-1, Planned, Demand-2, LeastPlan, Demand-3}
 use Rattle.bytes.specs.Outcome.{Answered}
-use Rattle.customer.proofs.Answers.{untouched, placed, front, back}
-use Rattle.planner.proofs.Drafts.{legal-carries, refused-outcome, sheet-outcome}
+use Rattle.demands.proofs.Answers.{untouched, placed, front, back}
 
 -- the ground of an outcome
 abbrev pub GroundOf : (bytes : List ℕ) → (room : ℕ) → Type 0

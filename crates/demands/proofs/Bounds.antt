@@ -27,9 +27,9 @@ use Rattle.maps.proofs.Planned.{ordered, latency-in-time}
 use Rattle.maps.proofs.UsedNodes.{chosen-below}
 use Rattle.maps.proofs.WrittenSize.{plan-most, within-bytes}
 use Rattle.maps.proofs.Refusing.{refuses-number}
-use Rattle.customer.specs.Bounds.{Bounded}
-use Rattle.customer.specs.Demands.{Ground, unread, uncut, never, tooLate, tooShort, planned}
-use Rattle.customer.proofs.Demands.{ground-of}
+use Rattle.demands.specs.Bounds.{Bounded}
+use Rattle.demands.specs.Demands.{Ground, unread, uncut, never, tooLate, tooShort, planned}
+use Rattle.demands.proofs.Demands.{ground-of}
 
 -- lists of at most b elements each, one after the other
 concat-length : {A B : Type 0} (f : A → List B) (b : ℕ) (xs : List A) → All (λ x. length (f x) ≤ b) xs → length (concat (map f xs)) ≤ length (map f xs) * b

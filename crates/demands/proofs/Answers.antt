@@ -6,7 +6,7 @@ use lib.ListN.{length, take, drop}
 use lib.Seq.{take-at, drop-at}
 use Rattle.maps.specs.Outcome.{Outcome, accepted, refusal, outcomeNumber, outcomePlace, bufferAfter}
 use Rattle.bytes.specs.Outcome.{Answered}
-use Rattle.customer.specs.Answers.{Written, Refused}
+use Rattle.demands.specs.Answers.{Written, Refused}
 
 module _ (o : Outcome) (number place : ℕ) (buffer after : List ℕ) (is : Answered o number place buffer after) where
   -- any number but 0 leaves the buffer

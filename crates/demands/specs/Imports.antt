@@ -19,8 +19,8 @@ use Rattle.blif.specs.Grounds.{Callable}
 use Rattle.blif.specs.Faults.{FirstFault, Answered, FirstUndefined}
 use Rattle.blif.specs.Relations.{SheetOfText}
 use Rattle.blif.specs.ImportLaws.{Reaches, Way}
-use Rattle.customer.specs.Answers.{Written, Refused}
-use Rattle.customer.specs.Stores.{mapsSheetMost}
+use Rattle.demands.specs.Answers.{Written, Refused}
+use Rattle.demands.specs.Stores.{mapsSheetMost}
 
 module _ (text : List ℕ) (c : Caller) (buffer : List ℕ) (number place : ℕ) (after : List ℕ) where
   -- "The outcome is a sheet whose nodes are the model's, outputs marked, without differences": its spelling reads, and is written where the buffer is
