@@ -4,7 +4,7 @@ use mathlib.Core.Path.{_≡_}
 use mathlib.Core.Bool.{true}
 use mathlib.Core.List.{List}
 use lib.ListN.{length, getD}
-use Rattle.maps.specs.Limits.{reachMost}
+use Rattle.maps.specs.Limits.{readyMost}
 use Rattle.maps.specs.Label.{Label, label, later}
 use Rattle.maps.specs.Sheet.{Sheet, node, size, latency}
 use Rattle.maps.specs.Cut.{logicNode, FittingCut}
@@ -21,7 +21,7 @@ pub record Given (S : Sheet) (graph differences : List ℕ) (limits : R.Header) 
   pub listed : Listed S differences
   pub leaves : limits .leaves ≡ S .leaves
   pub top : limits .top ≡ S .top
-  pub near : limits .horizon ≤ reachMost
+  pub near : limits .horizon ≤ readyMost
   pub nodes : limits .nodes ≡ size S
   pub count : limits .differences ≡ length (S .differences)
 

@@ -20,7 +20,7 @@ use Rattle.maps.specs.Number.{Bytes}
 use Rattle.maps.specs.Read.{Parsed, sheet, refused, parse}
 use Rattle.maps.specs.Reading.{ReadsAs}
 use Rattle.maps.specs.WellFormed.{WellFormed}
-use Rattle.maps.specs.Outcome.{Outcome, accepted, refusal, within, timed, cutless, covered, outcome, outcomeNumber, outcomePlace}
+use Rattle.maps.specs.Outcome.{Outcome, accepted, refusal, within, withinHorizon, timed, cutless, covered, outcome, outcomeNumber, outcomePlace}
 use Rattle.maps.proofs.Over.{and-true}
 use Rattle.maps.proofs.Member.{keep-in, below-in, keep-append}
 use Rattle.maps.proofs.Enumerate.{clash, complete, sound}
@@ -30,7 +30,7 @@ use Rattle.maps.proofs.Written.{reads-parse, parse-reads}
 use Rattle.maps.proofs.Refusing.{parse-refuses, refuses-parse, refuses-number}
 use Rattle.maps.proofs.Planned.{ordered, latency-least, legal-carries, refused-outcome, sheet-outcome}
 use Rattle.never.specs.Ever.{Ever, never, some}
-use Rattle.never.proofs.Horizons.{ever-right, in-time, longer, is-never, is-longer, is-in-time}
+use Rattle.never.proofs.Horizons.{ever-right, in-time, longer, never-computed, longer-computed, in-time-computed}
 use Rattle.demands.specs.Demands.{AllCut, LowestCutless, LeastLabels, Ground, unread, uncut, tooLate, tooShort, planned, Covers, Demand-1, Planned, Demand-2, LeastPlan, Demand-3}
 use Rattle.bytes.specs.Outcome.{Answered}
 use Rattle.demands.proofs.Answers.{untouched, placed, front, back}
@@ -176,17 +176,17 @@ module _ (bytes : List ℕ) (S : Sheet) (e : ReadsAs bytes S) (a : AllCut S) whe
   timed-outcome room = sheet-outcome bytes S (reads-parse bytes S e) room ∙ ap (covered S room) none-lacks
 
   never-outcome : Never S → (room : ℕ) → outcome bytes room ≡ refusal 12 0
-  never-outcome n room = timed-outcome room ∙ ap (timed S room) (is-never S (e .well) none-lacks n)
+  never-outcome n room = timed-outcome room ∙ ap (timed S room) (never-computed S (e .well) none-lacks n)
 
   late-outcome : Longer S → (room : ℕ) → outcome bytes room ≡ refusal 7 0
   late-outcome h room =
-      let l = is-longer S (e .well) none-lacks h in
-      timed-outcome room ∙ ap (timed S room) (l .1) ∙ ap (λ (t : Bool). cond t (within room (plan S (l .0))) (refusal 7 0)) (l .2)
+      let l = longer-computed S (e .well) none-lacks h in
+      timed-outcome room ∙ ap (timed S room) (l .1) ∙ ap (withinHorizon S room (l .0)) (l .2)
 
   least-outcome : (L : List Label) → LeastLabels S L → (room : ℕ) → outcome bytes room ≡ within room (plan S L)
   least-outcome L h room =
-      let l = is-in-time S (e .well) none-lacks L (h .sized) (h .isLeast) in
-      timed-outcome room ∙ ap (timed S room) (l .0) ∙ ap (λ (t : Bool). cond t (within room (plan S L)) (refusal 7 0)) (l .1)
+      let l = in-time-computed S (e .well) none-lacks L (h .sized) (h .isLeast) in
+      timed-outcome room ∙ ap (timed S room) (l .0) ∙ ap (withinHorizon S room L) (l .1)
 
   found : Found S
   found = go (ever-right S (e .well) none-lacks)

@@ -52,8 +52,8 @@ abbrev pub latencyMost : ℕ
 latencyMost = 255
 
 -- no ready label of least labels is later than this step, whatever the sheet and its horizon
-abbrev pub reachMost : ℕ
-reachMost = (sizeRange .high - 1) * weightMost + latencyMost
+abbrev pub readyMost : ℕ
+readyMost = (sizeRange .high - 1) * weightMost + latencyMost
 
 -- document 02, U5: q is "0 to T for a box with lat of 1 or more, 0 for all others"
 abbrev pub clockToQRange : (top lat : ℕ) → Range

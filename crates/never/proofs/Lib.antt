@@ -1,3 +1,3 @@
 pub mod Meet
-pub mod Reach
+pub mod ReadyBounds
 pub mod Horizons

@@ -1,7 +1,7 @@
 -- What planning from the tables rests on, and the outcome that each way out comes to.
 use Prim.Native.Nat.{ℕ, _+_, _≤_, _<_}
 use mathlib.Core.Path.{_≡_, sym, subst, ap, _∙_}
-use mathlib.Core.Bool.{Bool, true, false, cond}
+use mathlib.Core.Bool.{Bool, true, false}
 use mathlib.Core.List.{List, []}
 use native.Mathlib.Omega.{arith}
 use lib.ListN.{getD}
@@ -12,7 +12,7 @@ use Rattle.maps.specs.Legal.{CarryingCut, Legal, latencyOfAll}
 use Rattle.maps.specs.Least.{at, inTime, least, leastEver}
 use Rattle.maps.specs.Plan.{plan}
 use Rattle.maps.specs.Read.{Header}
-use Rattle.maps.specs.Outcome.{refusal, within, timed, cutless}
+use Rattle.maps.specs.Outcome.{refusal, within, withinHorizon, timed, cutless}
 use Rattle.maps.proofs.Planned.{latency-in-time, legal-carries}
 use Rattle.maps.proofs.Over.{getD-over}
 use Rattle.rows.specs.Code.{headerMeant}
@@ -102,8 +102,8 @@ module _ {S : Sheet} {graph differences : List ℕ} {limits : R.Header} (steps l
 
   -- the outcome of least labels, by whether they are in time
   tested : leastEver S ≡ least labels → (b : Bool) → inTime S labels (limits .horizon) ≡ b → (room : ℕ)
-      → timed S room (leastEver S) ≡ cond b (within room (plan S labels)) (refusal 7 0)
-  tested e b q room = ap (timed S room) e ∙ ap (λ (t : Bool). cond t (within room (plan S labels)) (refusal 7 0)) (ap (inTime S labels) (sym own) ∙ q)
+      → timed S room (leastEver S) ≡ withinHorizon S room labels b
+  tested e b q room = ap (timed S room) e ∙ ap (withinHorizon S room labels) (ap (inTime S labels) (sym own) ∙ q)
 
   pub never-outcome : Times S (limits .horizon) labels Is.Never → (room : ℕ) → timed S room (leastEver S) ≡ refusal 12 0
   never-outcome (is-never e) room = ap (timed S room) e

@@ -6,11 +6,11 @@ use mathlib.Core.List.{List, []}
 use native.Mathlib.Omega.{arith}
 use Rattle.maps.specs.Label.{Label, label}
 use Rattle.maps.specs.Sheet.{Sheet}
-use Rattle.maps.specs.Least.{late, least, leastWithin, reach, leastEver}
+use Rattle.maps.specs.Least.{late, least, leastWithin, readyBound, leastEver}
 use Rattle.maps.specs.Outcome.{cutless}
 use Rattle.maps.proofs.Over.{getD-over}
 use Rattle.rows.specs.declared.Header as R
-use Rattle.never.proofs.Reach.{reach-most}
+use Rattle.never.proofs.ReadyBounds.{ready-most}
 use Rattle.never.proofs.Horizons.{far-ever}
 use Rattle.bound.specs.Lookup.{labelIn, labelsIn, Soon}
 use Rattle.bound.specs.Going.{Given}
@@ -33,20 +33,20 @@ module _ {S : Sheet} {graph differences : List ℕ} {limits : R.Header} (g : Giv
       }
 
   -- no least label is later
-  reach-near : reach S ≤ far .horizon
-  reach-near = omega (arith, reach-most S (g .well), f .farthest)
+  ready-near : readyBound S ≤ far .horizon
+  ready-near = omega (arith, ready-most S (g .well), f .farthest)
 
   module _ (cuts : cutless S ≡ []) where
     -- what is found within it are the labels of any horizon
     pub far-late : leastWithin S (far .horizon) ≡ late → leastEver S ≡ late
-    far-late e = sym (far-ever S (g .well) cuts (far .horizon) reach-near) ∙ e
+    far-late e = sym (far-ever S (g .well) cuts (far .horizon) ready-near) ∙ e
 
     module _ (steps levels : List ℕ) (e : leastWithin S (far .horizon) ≡ least (labelsIn (far .nodes) steps levels)) where
       found : leastWithin S (far .horizon) ≡ least (labelsIn (limits .nodes) steps levels)
       found = e ∙ ap (λ (n : ℕ). least (labelsIn n steps levels)) (f .nodes)
 
       pub far-least : leastEver S ≡ least (labelsIn (limits .nodes) steps levels)
-      far-least = sym (far-ever S (g .well) cuts (far .horizon) reach-near) ∙ found
+      far-least = sym (far-ever S (g .well) cuts (far .horizon) ready-near) ∙ found
 
       -- and they are ready in time for the code's numbers
       pub far-soon : (u : ℕ) → u < limits .nodes → Soon graph steps u

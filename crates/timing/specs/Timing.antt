@@ -3,7 +3,7 @@ use Prim.Native.Nat.{ℕ, _≤_}
 use mathlib.Core.Path.{_≡_}
 use mathlib.Core.Bool.{true, false}
 use mathlib.Core.List.{List}
-use Rattle.maps.specs.Limits.{reachMost}
+use Rattle.maps.specs.Limits.{readyMost}
 use Rattle.maps.specs.Label.{Label}
 use Rattle.maps.specs.Sheet.{Sheet}
 use Rattle.maps.specs.Least.{inTime, late, least, leastEver}
@@ -15,8 +15,8 @@ use Rattle.timing.specs.declared.Timing.the-variants as Is
 pub record Far (limits far : R.Header) : Type 0 where
   pub leaves : far .leaves ≡ limits .leaves
   pub top : far .top ≡ limits .top
-  pub farthest : reachMost ≤ far .horizon
-  pub near : far .horizon ≤ reachMost
+  pub farthest : readyMost ≤ far .horizon
+  pub near : far .horizon ≤ readyMost
   pub nodes : far .nodes ≡ limits .nodes
   pub differences : far .differences ≡ limits .differences
 

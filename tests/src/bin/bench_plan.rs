@@ -78,7 +78,7 @@ fn rules(random: &mut Random, n: u32) -> Sheet {
     })
 }
 
-/// Tables each on the one below, deep in steps.
+/// Tables each on the one below. With six inputs and K = 6 every cone goes down to the inputs.
 fn deep(random: &mut Random, n: u32) -> Sheet {
     sheet(n, 4, |own| {
         let delay = random.within(1, 3);

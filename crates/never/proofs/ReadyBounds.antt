@@ -1,16 +1,16 @@
--- No ready label of least labels is later than `reach`, whatever the horizon that they are legal within.
+-- No ready label of least labels is later than `readyBound`, whatever the horizon that they are legal within.
 use Prim.Native.Nat.{ℕ, _+_, _-_, _*_, _≤_, _<_}
 use mathlib.Core.Path.{_≡_, refl}
 use mathlib.Core.Bool.{Bool, true, false}
 use native.Mathlib.Omega.{arith}
 use native.Mathlib.Nat.{mul-le-mul-right, mul-le-mul-left}
-use Rattle.maps.specs.Limits.{weightMost, latencyMost, reachMost}
+use Rattle.maps.specs.Limits.{weightMost, latencyMost, readyMost}
 use Rattle.maps.specs.Label.{Label}
 use Rattle.maps.specs.Sheet.{Sheet, size, latency}
 use Rattle.maps.specs.Lists.{below}
 use Rattle.maps.specs.WellFormed.{WellFormed}
 use Rattle.maps.specs.Legal.{Least}
-use Rattle.maps.specs.Least.{climb, reach}
+use Rattle.maps.specs.Least.{greatestWeight, readyBound}
 use Rattle.maps.proofs.Member.{below-in, below-out, greatest-from, greatest-most}
 use Rattle.relax.proofs.Closed.{Closed, latency-most}
 use Rattle.relax.proofs.Guard.{legal-node}
@@ -20,29 +20,29 @@ use Rattle.relax.specs.Hold.{Held}
 use Rattle.relax.proofs.Held.{Climb, well-climb, held-set, grown-held, held-bound}
 use Rattle.never.proofs.Meet.{least-guarded}
 
--- no operand and no difference climbs more than `climb`, which is the least such number
-climb-is : (S : Sheet) → Climb S (climb S)
-unfolding climb
-climb-is S =
+-- no operand and no difference asks for more than `greatestWeight`, which is the least such number
+weight-climbs : (S : Sheet) → Climb S (greatestWeight S)
+unfolding greatestWeight
+weight-climbs S =
     record {
       latencies = λ u l. omega (arith, greatest-from (λ v. latency S v + 1) (below (size S)) (below-in (size S) u l));
       forwards = λ d m. omega (arith, greatest-from (λ d. d .plus) (S .differences) m);
     }
 
-climb-most : (S : Sheet) (W : ℕ) → Climb S W → climb S ≤ W
-unfolding climb
-climb-most S W c =
+weight-most : (S : Sheet) (W : ℕ) → Climb S W → greatestWeight S ≤ W
+unfolding greatestWeight
+weight-most S W c =
     omega (
       arith,
       greatest-most (λ v. latency S v + 1) W (below (size S)) (λ u m. c .latencies u (below-out (size S) u m)),
       greatest-most (λ d. d .plus) W (S .differences) (c .forwards),
     )
 
--- no sheet reaches further than `reachMost`
-pub reach-most : (S : Sheet) → WellFormed S → reach S ≤ reachMost
-unfolding reach
-reach-most S well =
-    let a : (size S - 1) * climb S ≤ (size S - 1) * weightMost = mul-le-mul-left (size S - 1) (climb-most S weightMost (well-climb S well)) in
+-- which is at most `readyMost`, whatever the sheet
+pub ready-most : (S : Sheet) → WellFormed S → readyBound S ≤ readyMost
+unfolding readyBound
+ready-most S well =
+    let a : (size S - 1) * greatestWeight S ≤ (size S - 1) * weightMost = mul-le-mul-left (size S - 1) (weight-most S weightMost (well-climb S well)) in
     let few : size S - 1 ≤ 255 = omega (arith, well .size .most) in
     let b : (size S - 1) * weightMost ≤ 255 * weightMost = mul-le-mul-right {m = size S - 1} {n = 255} weightMost few in
     omega (arith, greatest-most (latency S) latencyMost (below (size S)) (λ u m. latency-most S well u))
@@ -74,11 +74,11 @@ module _ (S : Sheet) (closed : Closed S) (G : ℕ) (L : ℕ → Label) (h : Leas
           absurd (floats-never S closed L (λ w k. ok-after S L w (legal-node S L (h .legal) w k)) held (held-set S closed L .2)
           (least-guarded S closed G L h) v l e L G (h .legal))
 
-  ends : (v : ℕ) → v < size S → L v .step + latency S v ≤ reach S
-  unfolding reach
+  ends : (v : ℕ) → v < size S → L v .step + latency S v ≤ readyBound S
+  unfolding readyBound
   ends v l =
-      omega (arith, held-bound S closed L (climb S) (climb-is S) all-held v l, greatest-from (latency S) (below (size S)) (below-in (size S) v l))
+      omega (arith, held-bound S closed L (greatestWeight S) (weight-climbs S) all-held v l, greatest-from (latency S) (below (size S)) (below-in (size S) v l))
 
-  -- least labels within any horizon are least within `reach`
-  pub least-reach : Least S (reach S) L
-  least-reach = least-within S G (reach S) L h ends
+  -- least labels within any horizon are least within `readyBound`
+  pub least-ready : Least S (readyBound S) L
+  least-ready = least-within S G (readyBound S) L h ends
