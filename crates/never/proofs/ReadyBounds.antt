@@ -38,7 +38,7 @@ weight-most S W c =
       greatest-most (λ d. d .plus) W (S .differences) (c .forwards),
     )
 
--- which is at most `readyMost`, whatever the sheet
+-- `readyBound` is at most `readyMost`, whatever the sheet
 pub ready-most : (S : Sheet) → WellFormed S → readyBound S ≤ readyMost
 unfolding readyBound
 ready-most S well =
