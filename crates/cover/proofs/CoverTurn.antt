@@ -18,9 +18,10 @@ use Rattle.maps.specs.Plan.{leavesOf}
 use Rattle.maps.proofs.Enumerate.{clash}
 use Rattle.maps.proofs.Member.{All-at, All-map, mem-out, mem-append}
 use Rattle.maps.proofs.Planned.{operands-below}
+use Rattle.maps.proofs.RecordLaws.{mark-again}
 use Rattle.rows.specs.Table.{kindAt, countIn, operandIn, Tabled}
 use Rattle.rows.specs.declared.Header as R
-use Rattle.rows.proofs.Tables.{kind-tabled}
+use Rattle.rows.proofs.Tables.{kind-tabled, output-tabled}
 use Rattle.bound.specs.Lookup.{labelsIn, countOf, leafOf}
 use Rattle.level.proofs.CutRows.{count-beside, count-blank}
 use Rattle.cover.specs.Cover.{Covered, Rows, operandsOf, rowOf}
@@ -32,10 +33,6 @@ or-false : (a b c : Bool) → (a || (b || c)) ≡ false → c ≡ false
 or-false true b c e = clash (sym e)
 or-false false true c e = clash (sym e)
 or-false false false c e = e
-
-mark-code : (b : Bool) → eqb (cond b 1 0) 1 ≡ b
-mark-code true = refl
-mark-code false = refl
 
 row-blank : (cuts : List ℕ) (w : ℕ) → countOf cuts w ≡ 0 → rowOf cuts w ≡ []
 row-blank cuts w e = ap (λ (n : ℕ). map (leafOf cuts w) (below n)) e
@@ -70,9 +67,9 @@ module _ {S : Sheet} {L : List Label} (v : ℕ) {marks cuts : List ℕ} (g : Cov
   -- the test of the code is that of the definition
   pub used-is : {graph : List ℕ} → Tabled S graph → v < 256 → usedIn graph marks v ≡ usedNode S L (g .needed) v
   used-is {graph} t l =
-      ap (λ (b : Bool). b || (isBox (kindAt graph v) || eqb (getD marks v 0) 1)) (ap (λ (x : ℕ). eqb x 1) (t .marks v l) ∙ mark-code (node S v .output))
+      ap (λ (b : Bool). b || (isBox (kindAt graph v) || eqb (getD marks v 0) 1)) (output-tabled S graph t v l)
       ∙ ap (λ (b : Bool). node S v .output || (b || eqb (getD marks v 0) 1)) (ap isBox (kind-tabled S graph t v l))
-      ∙ ap (λ (b : Bool). node S v .output || (isBox (node S v .kind) || b)) (ap (λ (x : ℕ). eqb x 1) (g .marked v l) ∙ mark-code (mem v (g .needed)))
+      ∙ ap (λ (b : Bool). node S v .output || (isBox (node S v .kind) || b)) (ap (λ (x : ℕ). eqb x 1) (g .marked v l) ∙ mark-again (mem v (g .needed)))
 
   after : (b : Bool) → usedNode S L (g .needed) v ≡ b
       → usedBelow S L v (cond b (v ∷ needs S L (node S v .kind) v ++ g .needed) (g .needed)) ≡ used S L

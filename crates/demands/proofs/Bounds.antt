@@ -11,7 +11,7 @@ use Rattle.maps.specs.Lists.{All, mem, below, concat}
 use Rattle.maps.specs.Label.{Label}
 use Rattle.maps.specs.Sheet.{Sheet, size}
 use Rattle.maps.specs.Cut.{logicNode}
-use Rattle.maps.specs.Legal.{Legal, latencyOfAll}
+use Rattle.maps.specs.Legal.{Legal, planLatency}
 use Rattle.maps.specs.Least.{at}
 use Rattle.maps.specs.Cover.{chosenCut, carryingCuts, used}
 use Rattle.maps.specs.Limits.{leavesRange, topRange, horizonRange, sizeRange, markRange, idRange}
@@ -84,7 +84,7 @@ module _ (S : Sheet) (well : WellFormed S) (L : List Label) (ok : Legal S (at L)
   unfolding plan
   plan-length =
       let rows = concat-length (row S L (used S L)) rowBytesMost (below (size S)) (All-of _ (below (size S)) (λ v m. row-length (used S L) v (below-out (size S) v m))) in
-      let latency = within-bytes {n = latencyOfAll S (at L)} {most = horizonRange .high} (omega (arith, latency-in-time S (at L) (S .horizon) ok, well .horizon .most)) in
+      let latency = within-bytes {n = planLatency S (at L)} {most = horizonRange .high} (omega (arith, latency-in-time S (at L) (S .horizon) ok, well .horizon .most)) in
       let n = length-over (row S L (used S L)) [] (size S) in
       let most = mul-le-mul-right rowBytesMost (well .size .most) in
       simp length-append (omega arith)

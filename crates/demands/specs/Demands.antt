@@ -10,7 +10,7 @@ use Rattle.maps.specs.Lists.{mem}
 use Rattle.maps.specs.Label.{Label}
 use Rattle.maps.specs.Sheet.{Sheet, size}
 use Rattle.maps.specs.Cut.{FittingCut, logicNode}
-use Rattle.maps.specs.Legal.{Legal, NoneLegal, Never, Longer, Least, latencyOfAll}
+use Rattle.maps.specs.Legal.{Legal, NoneLegal, Never, Longer, Least, planLatency}
 use Rattle.maps.specs.Least.{at}
 use Rattle.maps.specs.Cover.{Chosen, Used, used}
 use Rattle.maps.specs.Plan.{leavesOf, plan}
@@ -92,7 +92,7 @@ module _ (bytes buffer : List ℕ) (number place : ℕ) (after : List ℕ) where
   pub record LeastPlan (S : Sheet) : Type 0 where
     pub labels : List Label
     pub least : LeastLabels S labels
-    pub latency : (M : ℕ → Label) (G : ℕ) → Legal S M G → latencyOfAll S (at labels) ≤ latencyOfAll S M
+    pub latency : (M : ℕ → Label) (G : ℕ) → Legal S M G → planLatency S (at labels) ≤ planLatency S M
     pub covers : Covers S labels
     pub answered : (number ≡ 0) ⊎ (number ≡ 8)
     pub counted : place ≡ length (plan S labels)

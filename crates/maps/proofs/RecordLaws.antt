@@ -62,12 +62,12 @@ kind-again input = refl
 kind-again logic = refl
 kind-again (box lat q) = refl
 
-output-again : (b : Bool) → eqb (cond b 1 0) 1 ≡ b
-output-again true = refl
-output-again false = refl
+pub mark-again : (b : Bool) → eqb (cond b 1 0) 1 ≡ b
+mark-again true = refl
+mark-again false = refl
 
 pub node-meant : (v : Node) → nodeMeant (nodeRecord v) ≡ v
-node-meant v = rw (kind-again (v .kind), output-again (v .output))
+node-meant v = rw (kind-again (v .kind), mark-again (v .output))
 
 nodes-meant : (vs : List Node) → map nodeMeant (map nodeRecord vs) ≡ vs
 nodes-meant [] = refl

@@ -8,7 +8,7 @@ use lib.ListN.{getD}
 use Rattle.maps.specs.Label.{Label, earliest}
 use Rattle.maps.specs.Sheet.{Sheet, size, latency}
 use Rattle.maps.specs.Cut.{logicNode}
-use Rattle.maps.specs.Legal.{CarryingCut, Legal, latencyOfAll}
+use Rattle.maps.specs.Legal.{CarryingCut, Legal, planLatency}
 use Rattle.maps.specs.Least.{at, inTime, least, leastEver}
 use Rattle.maps.specs.Plan.{plan}
 use Rattle.maps.specs.Read.{Header}
@@ -51,9 +51,9 @@ module _ {S : Sheet} {graph differences : List ℕ} {limits : R.Header} (steps l
   pub carrying : (v : ℕ) → v < size S → logicNode S v ≡ true → CarryingCut S (at (labelsIn (size S) steps levels)) v
   carrying = legal-carries S (at (labelsIn (size S) steps levels)) (S .horizon) ok
 
-  module _ {last : ℕ} (q : last ≡ latencyOfAll S (at (labelsIn (limits .nodes) steps levels))) where
-    e : last ≡ latencyOfAll S (at (labelsIn (size S) steps levels))
-    e = q ∙ ap (λ (n : ℕ). latencyOfAll S (at (labelsIn n steps levels))) (k .nodes)
+  module _ {last : ℕ} (q : last ≡ planLatency S (at (labelsIn (limits .nodes) steps levels))) where
+    e : last ≡ planLatency S (at (labelsIn (size S) steps levels))
+    e = q ∙ ap (λ (n : ℕ). planLatency S (at (labelsIn n steps levels))) (k .nodes)
 
     last-most : last ≤ horizonRange .high
     last-most = omega (arith, e, k .well .horizon .most, latency-in-time S (at (labelsIn (size S) steps levels)) (S .horizon) ok)

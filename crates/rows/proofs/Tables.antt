@@ -15,7 +15,8 @@ use Rattle.maps.specs.Limits.{operandsMost, rangesOf}
 use Rattle.maps.specs.WellFormed.{Within, codeOf, WellNode, WellFormed}
 use Rattle.maps.proofs.Member.{All-ids, All-get, everywhere}
 use Rattle.maps.proofs.Planned.{operands-below}
-use Rattle.rows.specs.Table.{nodeStride, differenceStride, nodesWide, differencesWide, nodeRow, differenceRow, noDifference, graphOf, differencesOf, kindAt, Tabled, Falling, Listed}
+use Rattle.maps.proofs.RecordLaws.{mark-again}
+use Rattle.rows.specs.Table.{nodeStride, differenceStride, nodesWide, differencesWide, nodeRow, differenceRow, noDifference, graphOf, differencesOf, kindAt, markIn, Tabled, Falling, Listed}
 use Rattle.rows.proofs.StoredRows.{stored-length, stored-at, stored-past}
 
 -- no node has more operands than the most
@@ -127,6 +128,10 @@ kind-back (box lat q) = refl
 -- the kind in the table of a sheet is the node's
 pub kind-tabled : (S : Sheet) (g : List ℕ) → Tabled S g → (v : ℕ) → v < 256 → kindAt g v ≡ node S v .kind
 kind-tabled S g t v l = rw (t .kinds v l, t .latencies v l, t .clocks v l) (kind-back (node S v .kind))
+
+-- the mark too
+pub output-tabled : (S : Sheet) (g : List ℕ) → Tabled S g → (v : ℕ) → v < 256 → eqb (markIn g v) 1 ≡ node S v .output
+output-tabled S g t v l = ap (λ (x : ℕ). eqb x 1) (t .marks v l) ∙ mark-again (node S v .output)
 
 -- a code is 1 exactly if its kind is logic, and 2 or more exactly if it is a box
 pub code-is-logic : (code lat q : ℕ) → isLogic (kindOf code lat q) ≡ eqb code 1

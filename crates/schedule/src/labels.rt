@@ -6,7 +6,6 @@ ghost use mathlib.Core.List.{List, []};
 ghost use Prim.Native.Nat.{ℕ, _+_, _<_, _≤_};
 ghost use lib.Dec.{eqb};
 ghost use Rattle.maps.specs.Sheet.{Sheet, size};
-ghost use Rattle.maps.specs.Legal.{latencyOfAll};
 ghost use Rattle.maps.specs.Least.{at, leastWithin, late, least};
 ghost use Rattle.maps.specs.Outcome.{cutless};
 ghost use Rattle.rows.specs.Table.{Tabled};

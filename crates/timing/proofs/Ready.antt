@@ -1,22 +1,23 @@
--- The ready steps of the tables are those of the labels: whether all are within a horizon, and the greatest of them.
+-- The ready steps of the tables are those of the labels: whether all are within a horizon, and the greatest of the outputs'.
 use Prim.Native.Nat.{ℕ, _+_, _≤_, _<_, max}
 use mathlib.Core.Path.{_≡_, refl, ap, _∙_}
-use mathlib.Core.Bool.{Bool, true, false}
+use mathlib.Core.Bool.{Bool, true, false, cond}
 use mathlib.Core.List.{List, [], _∷_, _++_}
 use native.Mathlib.Numerals.{add-one}
 use native.Mathlib.Omega.{arith}
-use lib.Dec.{leb}
+use lib.Dec.{leb, eqb}
 use lib.ListN.{getD}
 use borrow.Author.Tests.{leb-true, leb-false}
 use Rattle.maps.specs.Label.{Label, label}
-use Rattle.maps.specs.Lists.{All, below, greatest}
-use Rattle.maps.specs.Sheet.{Sheet, size, latency, clockToQ}
-use Rattle.maps.specs.Legal.{readyOf, latencyOfAll}
+use Rattle.maps.specs.Lists.{All, keep, below, greatest}
+use Rattle.maps.specs.Sheet.{Sheet, node, size, latency, clockToQ}
+use Rattle.maps.specs.Legal.{readyOf, planLatency}
 use Rattle.maps.specs.Least.{at, inTime}
 use Rattle.maps.proofs.Over.{all-below, all-fails, getD-over}
 use Rattle.maps.proofs.Member.{All-of, below-out}
 use Rattle.maps.proofs.Order.{ready-step}
-use Rattle.rows.specs.Table.{latencyIn, Tabled}
+use Rattle.rows.specs.Table.{markIn, latencyIn, Tabled}
+use Rattle.rows.proofs.Tables.{output-tabled}
 use Rattle.bound.specs.Lookup.{labelIn, labelsIn}
 
 module _ (S : Sheet) (graph steps levels : List ℕ) (n : ℕ) (few : n ≤ 256) (t : Tabled S graph) (e : n ≡ size S) where
@@ -47,7 +48,7 @@ module _ (S : Sheet) (graph steps levels : List ℕ) (n : ℕ) (few : n ≤ 256)
       go false q = q
 
 -- one number more
-pub greatest-more : (x : ℕ → ℕ) (n : ℕ) → greatest x (below (n + 1)) ≡ max (greatest x (below n)) (x n)
+greatest-more : (x : ℕ → ℕ) (n : ℕ) → greatest x (below (n + 1)) ≡ max (greatest x (below n)) (x n)
 greatest-more x n = rw (add-one n) (go (below n))
   where
     go : (vs : List ℕ) → greatest x (vs ++ (n ∷ [])) ≡ max (greatest x vs) (x n)
@@ -58,17 +59,48 @@ greatest-same : (x y : ℕ → ℕ) (vs : List ℕ) → All (λ v. x v ≡ y v) 
 greatest-same x y [] h = refl
 greatest-same x y (v ∷ vs) h = omega (arith, greatest-same x y vs (h .1), h .0)
 
-pub latency-is-greatest : (S : Sheet) (graph steps levels : List ℕ) (n : ℕ) → n ≤ 256 → Tabled S graph → n ≡ size S
-    → greatest (λ v. getD steps v 0 + latencyIn graph v) (below n) ≡ latencyOfAll S (at (labelsIn n steps levels))
-latency-is-greatest S graph steps levels n few t e =
-    greatest-same (λ v. getD steps v 0 + latencyIn graph v) (λ v. readyOf S (at (labelsIn n steps levels)) v .step) (below n)
-    (All-of _ (below n) (λ v m. each v (below-out n v m)))
-    ∙ ap (λ (k : ℕ). greatest (λ v. readyOf S (at (labelsIn n steps levels)) v .step) (below k)) e
+-- of the elements that are kept, where any other counts 0
+greatest-kept : (p : ℕ → Bool) (x : ℕ → ℕ) (vs : List ℕ) → greatest (λ v. cond (p v) (x v) 0) vs ≡ greatest x (keep p vs)
+greatest-kept p x [] = refl
+greatest-kept p x (v ∷ vs) = go (p v) (greatest-kept p x vs)
   where
-    each : (v : ℕ) → v < n → getD steps v 0 + latencyIn graph v ≡ readyOf S (at (labelsIn n steps levels)) v .step
-    each v l =
+    go : (b : Bool) → greatest (λ v. cond (p v) (x v) 0) vs ≡ greatest x (keep p vs)
+        → max (cond b (x v) 0) (greatest (λ v. cond (p v) (x v) 0) vs) ≡ greatest x (cond b (v ∷ keep p vs) (keep p vs))
+    go true h = ap (max (x v)) h
+    go false h = omega (arith, h)
+
+-- what node v counts for in the latency: its ready step if it is an output
+abbrev pub counted : (graph steps : List ℕ) → ℕ → ℕ
+counted graph steps v = cond (eqb (markIn graph v) 1) (getD steps v 0 + latencyIn graph v) 0
+
+-- one node more, which is an output or not
+module _ (graph steps : List ℕ) (u : ℕ) where
+  pub output-counts : eqb (markIn graph u) 1 ≡ true
+      → greatest (counted graph steps) (below (u + 1)) ≡ max (greatest (counted graph steps) (below u)) (getD steps u 0 + latencyIn graph u)
+  output-counts e = greatest-more (counted graph steps) u ∙ ap (λ (b : Bool). max (greatest (counted graph steps) (below u)) (cond b (getD steps u 0 + latencyIn graph u) 0)) e
+
+  pub other-counts-not : eqb (markIn graph u) 1 ≡ false → greatest (counted graph steps) (below (u + 1)) ≡ greatest (counted graph steps) (below u)
+  other-counts-not e =
+      let q = greatest-more (counted graph steps) u ∙ ap (λ (b : Bool). max (greatest (counted graph steps) (below u)) (cond b (getD steps u 0 + latencyIn graph u) 0)) e in
+      omega (arith, q)
+
+pub latency-is-greatest : (S : Sheet) (graph steps levels : List ℕ) (n : ℕ) → n ≤ 256 → Tabled S graph → n ≡ size S
+    → greatest (counted graph steps) (below n) ≡ planLatency S (at (labelsIn n steps levels))
+latency-is-greatest S graph steps levels n few t e =
+    greatest-same (counted graph steps) (λ v. cond (node S v .output) (readyOf S (at (labelsIn n steps levels)) v .step) 0) (below n)
+    (All-of _ (below n) (λ v m. each v (below-out n v m)))
+    ∙ ap (λ (k : ℕ). greatest (λ v. cond (node S v .output) (readyOf S (at (labelsIn n steps levels)) v .step) 0) (below k)) e
+    ∙ greatest-kept (λ v. node S v .output) (λ v. readyOf S (at (labelsIn n steps levels)) v .step) (below (size S))
+  where
+    ready : (v : ℕ) → v < n → getD steps v 0 + latencyIn graph v ≡ readyOf S (at (labelsIn n steps levels)) v .step
+    ready v l =
         omega (
           arith,
           ready-step (latency S v) (clockToQ S v) (at (labelsIn n steps levels) v),
           step-is S graph steps levels n few t e v l,
         )
+
+    each : (v : ℕ) → v < n → counted graph steps v ≡ cond (node S v .output) (readyOf S (at (labelsIn n steps levels)) v .step) 0
+    each v l =
+        ap (λ (b : Bool). cond b (getD steps v 0 + latencyIn graph v) 0) (output-tabled S graph t v (omega arith))
+        ∙ ap (λ (k : ℕ). cond (node S v .output) k 0) (ready v l)

@@ -3,7 +3,7 @@ ghost use mathlib.Core.Path.{_≡_};
 ghost use mathlib.Core.List.{List, []};
 ghost use Prim.Native.Nat.{ℕ, _<_, _≤_};
 ghost use Rattle.maps.specs.Sheet.{Sheet, size};
-ghost use Rattle.maps.specs.Legal.{latencyOfAll};
+ghost use Rattle.maps.specs.Legal.{planLatency};
 ghost use Rattle.maps.specs.Least.{at, inTime};
 ghost use Rattle.maps.specs.Outcome.{cutless};
 ghost use Rattle.rows.specs.Table.{Tabled};
@@ -18,6 +18,7 @@ use maps::Step;
 use rows::Differences;
 use rows::Graph;
 use rows::Header;
+use rows::output_in;
 use schedule::least_labels;
 
 // What the horizon comes to: nothing is legal under any, nothing within this one but within a larger one, or the least labels are in time.
@@ -84,16 +85,18 @@ pub fn time_labels(
     Timing::InTime
 }
 
-// The greatest step among the ready labels of n nodes.
+// The greatest ready step among the outputs of n nodes; 0 where none is an output.
 pub fn latency(graph: &Graph, steps: &Steps, n: u32) -> Step
     requires { ⌜ n ≤ 256 ⌝ }
     requires { ⌜ ((u : ℕ) → u < n → Soon (now graph) (now steps) u) ⌝ }
-    ensures { λ r. ⌜ ((S : Sheet) (levels : List ℕ) → Tabled S (now (graph .entry)) → n ≡ size S → r .0 ≡ latencyOfAll S (at (labelsIn n (now (steps .entry)) levels))) ⌝ }
+    ensures { λ r. ⌜ ((S : Sheet) (levels : List ℕ) → Tabled S (now (graph .entry)) → n ≡ size S → r .0 ≡ planLatency S (at (labelsIn n (now (steps .entry)) levels))) ⌝ }
 {
     let mut most = Step(0);
     let mut u: u32 = 0;
     while u < n {
-        most = most.later(ready_step(graph, steps, u));
+        if output_in(graph, u) {
+            most = most.later(ready_step(graph, steps, u));
+        }
         u += 1;
     }
     most

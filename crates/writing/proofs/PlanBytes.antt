@@ -7,7 +7,7 @@ use lib.ListN.{length}
 use Rattle.maps.specs.Lists.{below, concat}
 use Rattle.maps.specs.Label.{Label, earliest}
 use Rattle.maps.specs.Sheet.{Sheet, size}
-use Rattle.maps.specs.Legal.{latencyOfAll}
+use Rattle.maps.specs.Legal.{planLatency}
 use Rattle.maps.specs.Least.{at}
 use Rattle.maps.specs.Cover.{used}
 use Rattle.maps.specs.Number.{encoded}
@@ -37,7 +37,7 @@ module _ (S : Sheet) (steps levels marks cuts : List ℕ) (covered : Covered S (
       let label = sym (getD-over (labelIn steps levels) earliest (size S) v l) in
       same-row (ap (λ (a : Label). a .step) label) (ap (λ (a : Label). a .level) label) (covered .marked v l) (e ∙ ap length (covered .rows v l)) (covered .rows v l)
 
-  pub plan-bytes : (latency : ℕ) → latency ≡ latencyOfAll S (at (labelsIn (size S) steps levels))
+  pub plan-bytes : (latency : ℕ) → latency ≡ planLatency S (at (labelsIn (size S) steps levels))
       → flatPlan latency (size S) steps levels marks cuts ≡ plan S (labelsIn (size S) steps levels)
   unfolding plan
   plan-bytes latency e = rw (e, map-below _ _ (size S) row-bytes)
