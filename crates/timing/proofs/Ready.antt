@@ -5,7 +5,7 @@ use mathlib.Core.Bool.{Bool, true, false, cond}
 use mathlib.Core.List.{List, [], _∷_, _++_}
 use native.Mathlib.Numerals.{add-one}
 use native.Mathlib.Omega.{arith}
-use lib.Dec.{leb, eqb}
+use lib.Dec.{leb}
 use lib.ListN.{getD}
 use borrow.Author.Tests.{leb-true, leb-false}
 use Rattle.maps.specs.Label.{Label, label}
@@ -16,9 +16,10 @@ use Rattle.maps.specs.Least.{at, inTime}
 use Rattle.maps.proofs.Over.{all-below, all-fails, getD-over}
 use Rattle.maps.proofs.Member.{All-of, below-out}
 use Rattle.maps.proofs.Order.{ready-step}
-use Rattle.rows.specs.Table.{markIn, latencyIn, Tabled}
+use Rattle.rows.specs.Table.{latencyIn, Tabled}
 use Rattle.rows.proofs.Tables.{output-tabled}
 use Rattle.bound.specs.Lookup.{labelIn, labelsIn}
+use Rattle.timing.specs.Timing.{outputStep}
 
 module _ (S : Sheet) (graph steps levels : List ℕ) (n : ℕ) (few : n ≤ 256) (t : Tabled S graph) (e : n ≡ size S) where
   -- a node's ready step
@@ -48,7 +49,7 @@ module _ (S : Sheet) (graph steps levels : List ℕ) (n : ℕ) (few : n ≤ 256)
       go false q = q
 
 -- one number more
-greatest-more : (x : ℕ → ℕ) (n : ℕ) → greatest x (below (n + 1)) ≡ max (greatest x (below n)) (x n)
+pub greatest-more : (x : ℕ → ℕ) (n : ℕ) → greatest x (below (n + 1)) ≡ max (greatest x (below n)) (x n)
 greatest-more x n = rw (add-one n) (go (below n))
   where
     go : (vs : List ℕ) → greatest x (vs ++ (n ∷ [])) ≡ max (greatest x vs) (x n)
@@ -69,25 +70,10 @@ greatest-kept p x (v ∷ vs) = go (p v) (greatest-kept p x vs)
     go true h = ap (max (x v)) h
     go false h = omega (arith, h)
 
--- what node v counts for in the latency: its ready step if it is an output
-abbrev pub counted : (graph steps : List ℕ) → ℕ → ℕ
-counted graph steps v = cond (eqb (markIn graph v) 1) (getD steps v 0 + latencyIn graph v) 0
-
--- one node more, which is an output or not
-module _ (graph steps : List ℕ) (u : ℕ) where
-  pub output-counts : eqb (markIn graph u) 1 ≡ true
-      → greatest (counted graph steps) (below (u + 1)) ≡ max (greatest (counted graph steps) (below u)) (getD steps u 0 + latencyIn graph u)
-  output-counts e = greatest-more (counted graph steps) u ∙ ap (λ (b : Bool). max (greatest (counted graph steps) (below u)) (cond b (getD steps u 0 + latencyIn graph u) 0)) e
-
-  pub other-counts-not : eqb (markIn graph u) 1 ≡ false → greatest (counted graph steps) (below (u + 1)) ≡ greatest (counted graph steps) (below u)
-  other-counts-not e =
-      let q = greatest-more (counted graph steps) u ∙ ap (λ (b : Bool). max (greatest (counted graph steps) (below u)) (cond b (getD steps u 0 + latencyIn graph u) 0)) e in
-      omega (arith, q)
-
 pub latency-is-greatest : (S : Sheet) (graph steps levels : List ℕ) (n : ℕ) → n ≤ 256 → Tabled S graph → n ≡ size S
-    → greatest (counted graph steps) (below n) ≡ planLatency S (at (labelsIn n steps levels))
+    → greatest (outputStep graph steps) (below n) ≡ planLatency S (at (labelsIn n steps levels))
 latency-is-greatest S graph steps levels n few t e =
-    greatest-same (counted graph steps) (λ v. cond (node S v .output) (readyOf S (at (labelsIn n steps levels)) v .step) 0) (below n)
+    greatest-same (outputStep graph steps) (λ v. cond (node S v .output) (readyOf S (at (labelsIn n steps levels)) v .step) 0) (below n)
     (All-of _ (below n) (λ v m. each v (below-out n v m)))
     ∙ ap (λ (k : ℕ). greatest (λ v. cond (node S v .output) (readyOf S (at (labelsIn n steps levels)) v .step) 0) (below k)) e
     ∙ greatest-kept (λ v. node S v .output) (λ v. readyOf S (at (labelsIn n steps levels)) v .step) (below (size S))
@@ -100,7 +86,7 @@ latency-is-greatest S graph steps levels n few t e =
           step-is S graph steps levels n few t e v l,
         )
 
-    each : (v : ℕ) → v < n → counted graph steps v ≡ cond (node S v .output) (readyOf S (at (labelsIn n steps levels)) v .step) 0
+    each : (v : ℕ) → v < n → outputStep graph steps v ≡ cond (node S v .output) (readyOf S (at (labelsIn n steps levels)) v .step) 0
     each v l =
         ap (λ (b : Bool). cond b (getD steps v 0 + latencyIn graph v) 0) (output-tabled S graph t v (omega arith))
         ∙ ap (λ (k : ℕ). cond (node S v .output) k 0) (ready v l)

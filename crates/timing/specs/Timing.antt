@@ -1,12 +1,15 @@
--- What the answer about a horizon means.
-use Prim.Native.Nat.{ℕ, _≤_}
+-- What the answer about a horizon means, and what a node adds to the latency.
+use Prim.Native.Nat.{ℕ, _+_, _≤_}
 use mathlib.Core.Path.{_≡_}
-use mathlib.Core.Bool.{true, false}
+use mathlib.Core.Bool.{true, false, cond}
 use mathlib.Core.List.{List}
+use lib.Dec.{eqb}
+use lib.ListN.{getD}
 use Rattle.maps.specs.Limits.{readyMost}
 use Rattle.maps.specs.Label.{Label}
 use Rattle.maps.specs.Sheet.{Sheet}
 use Rattle.maps.specs.Least.{inTime, late, least, leastEver}
+use Rattle.rows.specs.Table.{markIn, latencyIn}
 use Rattle.rows.specs.declared.Header as R
 use Rattle.timing.specs.declared.Timing.{Timing}
 use Rattle.timing.specs.declared.Timing.the-variants as Is
@@ -25,3 +28,7 @@ pub data Times (S : Sheet) (H : ℕ) (L : List Label) : Timing → Type 0 where
   is-never : leastEver S ≡ late → Times S H L Is.Never
   is-late : leastEver S ≡ least L → inTime S L H ≡ false → Times S H L Is.Late
   is-in-time : leastEver S ≡ least L → inTime S L H ≡ true → Times S H L Is.InTime
+
+-- the ready step of u if it is an output, otherwise 0
+abbrev pub outputStep : (graph steps : List ℕ) → ℕ → ℕ
+outputStep graph steps u = cond (eqb (markIn graph u) 1) (getD steps u 0 + latencyIn graph u) 0

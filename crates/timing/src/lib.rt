@@ -9,7 +9,7 @@ ghost use Rattle.maps.specs.Outcome.{cutless};
 ghost use Rattle.rows.specs.Table.{Tabled};
 ghost use Rattle.bound.specs.Lookup.{labelsIn, Soon};
 ghost use Rattle.bound.specs.Going.{Given, AllKept};
-ghost use Rattle.timing.specs.Timing.{Far, Times};
+ghost use Rattle.timing.specs.Timing.{Far, Times, outputStep};
 use bound::Levels;
 use bound::Steps;
 use bound::ready_step;
@@ -85,6 +85,19 @@ pub fn time_labels(
     Timing::InTime
 }
 
+// The ready step of u if it is an output, otherwise 0.
+fn output_step(graph: &Graph, steps: &Steps, u: u32) -> Step
+    requires { ⌜ u < 256 ⌝ }
+    requires { ⌜ Soon (now graph) (now steps) u ⌝ }
+    ensures { λ r. ⌜ r .0 ≡ outputStep (now (graph .entry)) (now (steps .entry)) u ⌝ }
+{
+    let ready = ready_step(graph, steps, u);
+    if output_in(graph, u) {
+        return ready;
+    }
+    Step(0)
+}
+
 // The greatest ready step among the outputs of n nodes; 0 where none is an output.
 pub fn latency(graph: &Graph, steps: &Steps, n: u32) -> Step
     requires { ⌜ n ≤ 256 ⌝ }
@@ -94,9 +107,7 @@ pub fn latency(graph: &Graph, steps: &Steps, n: u32) -> Step
     let mut most = Step(0);
     let mut u: u32 = 0;
     while u < n {
-        if output_in(graph, u) {
-            most = most.later(ready_step(graph, steps, u));
-        }
+        most = most.later(output_step(graph, steps, u));
         u += 1;
     }
     most
