@@ -1,6 +1,6 @@
 /* A caller in C: the hall sheet of document 01 byte for byte, every number from 0 to 8 and 12 with its place, numbers of three bytes, sheets that no
- * horizon satisfies, memories that deliver after the clock edge, exact and short buffers, known bytes round the buffer, and the length of a plan. It
- * counts cases, each of several comparisons. From the folder that holds include/, tests/ and target/:
+ * horizon satisfies, memories that deliver after the clock edge, latencies that end at the last output, exact and short buffers, known bytes round
+ * the buffer, and the length of a plan. It counts cases, each of several comparisons. From the folder that holds include/, tests/ and target/:
  *
  *   gcc -std=c11 -Wall -Wextra -Wpedantic -Werror -Wconversion -Wshadow -Iinclude tests/c/plan.c -Ltarget/staticlib -lplanner -o target/plan_c
  */
@@ -273,6 +273,120 @@ static void memories(void) {
     expect("7: late by q", late, sizeof late, MAPS_LATE, 0, NULL);
 }
 
+/* One case: a sheet whose H is byte 2 has this plan within `end` steps and is refused 7 within each number of steps below that. */
+static void ends_at(const char *name, const uint8_t *sheet, size_t length, uint8_t end, const uint8_t *plan, size_t plan_length) {
+    uint8_t bytes[ROOM];
+    memcpy(bytes, sheet, length);
+    bytes[2] = end;
+    int holds = planned(bytes, length, ROOM, MAPS_ACCEPTED, plan_length, plan);
+    holds = planned(bytes, length, plan_length, MAPS_ACCEPTED, plan_length, plan) && holds;
+    holds = planned(bytes, length, plan_length - 1, MAPS_BUFFER_SHORT, plan_length, NULL) && holds;
+    holds = same(maps_plan_length(bytes, length), MAPS_ACCEPTED, plan_length) && holds;
+    while (bytes[2] > 0) {
+        bytes[2]--;
+        holds = planned(bytes, length, ROOM, MAPS_LATE, 0, NULL) && holds;
+    }
+    check(holds, name);
+}
+
+/* One case: an input, a table on it in step 2 and a box with lat = 3 on the table, with these marks. The box ends in step 5. */
+static void box_after(const char *name, uint8_t table_mark, uint8_t box_mark, uint8_t latency) {
+    const uint8_t sheet[] = {2, 4, 0, 3, 1, 0, 0, 0, 0, 0, 0, 1, table_mark, 1, 0, 0, 1, 0, 2, box_mark, 0, 3, 0, 1, 1, 0, 1, 4};
+    const uint8_t plan[] = {latency, 0, 0, 1, 0, 2, 1, 1, 1, 0, 2, 1, 1, 0};
+    ends_at(name, sheet, sizeof sheet, 5, plan, sizeof plan);
+}
+
+/* One case: an input and a box on it in this step with these d, lat and q, which is the output. */
+static void box_output(const char *name, uint8_t step, uint8_t delay, uint8_t lat, uint8_t q) {
+    const uint8_t sheet[] = {2, 4, 0, 2, 1, 0, 0, 0, 0, 0, 0, 2, 1, delay, lat, q, 1, 0, 0, 1, (uint8_t)(2 * step)};
+    const uint8_t plan[] = {(uint8_t)(step + lat), 0, 0, 1, 0, step, delay, 1, 0};
+    ends_at(name, sheet, sizeof sheet, (uint8_t)(step + lat), plan, sizeof plan);
+}
+
+/* One case: three inputs with these marks, of which node 1 is in step `second` and node 2 in step `third`. */
+static void three_inputs(const char *name, const uint8_t marks[3], uint8_t second, uint8_t third, uint8_t latency) {
+    const uint8_t sheet[] = {
+        2, 4, 0, 3, 2,
+        0, marks[0], 0, 0, 0, 0,
+        0, marks[1], 0, 0, 0, 0,
+        0, marks[2], 0, 0, 0, 0,
+        0, 1, (uint8_t)(2 * second), 0, 2, (uint8_t)(2 * third),
+    };
+    const uint8_t plan[] = {latency, 0, 0, marks[0], 0, second, 0, marks[1], 0, third, 0, marks[2], 0};
+    ends_at(name, sheet, sizeof sheet, second > third ? second : third, plan, sizeof plan);
+}
+
+/* One case: two inputs, 65,535 steps from the first to the second, which has this mark. */
+static void far_apart(const char *name, uint8_t mark, const uint8_t *plan, size_t length) {
+    uint8_t sheet[] = {2, 1, 0xff, 0xff, 0x03, 2, 1, 0, 0, 0, 0, 0, 0, 0, mark, 0, 0, 0, 0, 0, 1, 0xfe, 0xff, 0x07};
+    int holds = planned(sheet, sizeof sheet, ROOM, MAPS_ACCEPTED, length, plan);
+    holds = planned(sheet, sizeof sheet, length, MAPS_ACCEPTED, length, plan) && holds;
+    holds = planned(sheet, sizeof sheet, length - 1, MAPS_BUFFER_SHORT, length, NULL) && holds;
+    holds = same(maps_plan_length(sheet, sizeof sheet), MAPS_ACCEPTED, length) && holds;
+    sheet[2] = 0xfe;
+    holds = planned(sheet, sizeof sheet, ROOM, MAPS_LATE, 0, NULL) && holds;
+    check(holds, name);
+}
+
+/* The latency is the greatest ready step among outputs, and the horizon binds every node. */
+static void outputs(void) {
+    box_after("a box that ends after the last output", 1, 0, 2);
+    box_after("a box that ends last and is an output", 1, 1, 5);
+    box_after("a box that ends last and is the output", 0, 1, 5);
+    box_after("no output", 0, 0, 0);
+    static const uint8_t without[] = {0, 0, 0, 0, 0, 0xff, 0xff, 0x03, 0, 0, 0};
+    static const uint8_t with[] = {0xff, 0xff, 0x03, 0, 0, 0, 0, 0xff, 0xff, 0x03, 0, 1, 0};
+    far_apart("no output, a label at 65,535", 0, without, sizeof without);
+    far_apart("an output at 65,535", 1, with, sizeof with);
+    box_output("an output with lat = 0", 3, 2, 0, 0);
+    box_output("an output with lat", 0, 1, 3, 0);
+    box_output("an output with lat, in a step of its own", 2, 0, 3, 0);
+    box_output("an output with lat and q = T", 2, 4, 3, 4);
+    box_output("an output with lat = 1 and q", 0, 0, 1, 2);
+    box_output("an output with lat = 100", 20, 4, 100, 1);
+    static const uint8_t all[] = {1, 1, 1}, none[] = {0, 0, 0}, first[] = {1, 0, 0}, second[] = {0, 1, 0}, third[] = {0, 0, 1};
+    three_inputs("an input as output, in a later step", second, 6, 0, 6);
+    three_inputs("an input in a later step that is no output", third, 6, 0, 0);
+    three_inputs("three outputs, the greatest step between them", all, 6, 2, 6);
+    three_inputs("three outputs, the greatest step at the end", all, 2, 6, 6);
+    three_inputs("three outputs in one step", all, 0, 0, 0);
+    three_inputs("the first is the output", first, 2, 6, 0);
+    three_inputs("the second is the output", second, 2, 6, 2);
+    three_inputs("the last is the output", third, 2, 6, 6);
+    three_inputs("none is the output", none, 2, 6, 0);
+    /* The first of them is the last in time. */
+    static const uint8_t falling[] = {2, 4, 0, 3, 2, 0, 1, 0, 0, 0, 0, 0, 1, 0, 0, 0, 0, 0, 1, 0, 0, 0, 0, 2, 1, 4, 1, 0, 6};
+    static const uint8_t falling_plan[] = {5, 5, 0, 1, 0, 2, 0, 1, 0, 0, 0, 1, 0};
+    ends_at("three outputs, the greatest step at the start", falling, sizeof falling, 5, falling_plan, sizeof falling_plan);
+    /* Box 0 starts before input 1 and ends after it: steps 0 to 5, and step 3. */
+    static const uint8_t longer[] = {2, 4, 0, 2, 1, 2, 1, 0, 5, 0, 0, 0, 1, 0, 0, 0, 0, 0, 1, 6};
+    static const uint8_t longer_plan[] = {5, 0, 0, 1, 0, 3, 0, 1, 0};
+    ends_at("an output that starts first and ends last", longer, sizeof longer, 5, longer_plan, sizeof longer_plan);
+    /* Input 1 is the output, in step 1. In step 4: input 2, a leaf of table 3, which box 4 reads. */
+    static const uint8_t used[] = {
+        2, 4, 0, 5, 2,
+        0, 0, 0, 0, 0, 0,
+        0, 1, 0, 0, 0, 0,
+        0, 0, 0, 0, 0, 0,
+        1, 0, 1, 0, 0, 1, 2,
+        2, 0, 0, 0, 0, 1, 3,
+        0, 1, 2, 0, 2, 8,
+    };
+    static const uint8_t used_plan[] = {1, 0, 0, 0, 0, 1, 0, 1, 0, 4, 0, 1, 0, 4, 1, 1, 1, 2, 4, 1, 1, 0};
+    ends_at("used nodes after the last output", used, sizeof used, 4, used_plan, sizeof used_plan);
+    /* Table 1 is the output, in step 3. Table 2 hides it, two steps on, and box 3 reads table 2. */
+    static const uint8_t hidden[] = {
+        2, 4, 0, 4, 2,
+        0, 0, 0, 0, 0, 0,
+        1, 1, 1, 0, 0, 1, 0,
+        1, 0, 1, 0, 0, 1, 1,
+        2, 0, 0, 0, 0, 1, 2,
+        0, 1, 6, 1, 2, 4,
+    };
+    static const uint8_t hidden_plan[] = {3, 0, 0, 1, 0, 3, 1, 1, 1, 0, 5, 1, 1, 1, 0, 5, 1, 1, 0};
+    ends_at("an output that is hidden", hidden, sizeof hidden, 5, hidden_plan, sizeof hidden_plan);
+}
+
 /* Sheets and buffers of length 0, and a plan's length. */
 static void lengths(void) {
     static const uint8_t none[1] = {0};
@@ -309,6 +423,7 @@ int main(void) {
     horizons();
     never();
     memories();
+    outputs();
     lengths();
     words();
     return counted();

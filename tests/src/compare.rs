@@ -1,9 +1,10 @@
 //! The planning call against the planner by brute force: number, place and every byte of the buffer.
 use crate::buffer::{after, lent};
 use crate::library::{plan, Answer};
+use crate::plan::{refusal_line, Plan};
 use crate::planner::{self, outcome};
 use crate::random::Random;
-use crate::reader::Refusal;
+use crate::reader::{self, Refusal};
 
 /// How often each number from 0 to 12 is met.
 pub type Met = [u32; 13];
@@ -54,4 +55,17 @@ pub fn compare_all(seed: u64, rounds: u32, mut bytes: impl FnMut(&mut Random, u3
     }
     println!("calls by number: {met:?}");
     met
+}
+
+/// The listing of what the library gives, also held against the planner by brute force.
+pub fn listing(bytes: &[u8]) -> String {
+    let _ = compare(bytes, &mut Met::default());
+    let (answer, buffer) = planned(bytes, 5000);
+    if answer.number != 0 {
+        return refusal_line(answer.number, answer.place);
+    }
+    let sheet = reader::read(bytes).expect("an accepted sheet reads");
+    let plan = Plan::decoded(sheet.nodes.len(), &buffer[..answer.place as usize]);
+    plan.check(&sheet);
+    plan.listing()
 }

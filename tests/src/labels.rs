@@ -1,5 +1,5 @@
 //! Legal and least labellings by brute force: the conditions of document 01 as written, with document 02's ready label (U5), over all fitting cuts;
-//! and whether there is a legal labelling under any horizon (U6).
+//! whether there is a legal labelling under any horizon (U6); and the latency, which is that of outputs (U7).
 use crate::cones;
 use crate::reader::{Node, Sheet};
 
@@ -197,7 +197,7 @@ pub fn least(sheet: &Sheet) -> Result<Vec<Label>, (u64, u64)> {
 /// The same, given the fitting cuts.
 pub fn least_over(sheet: &Sheet, cuts: &[Vec<Vec<u32>>]) -> Result<Vec<Label>, (u64, u64)> {
     let labels = least_ever(sheet, cuts)?;
-    if latency(sheet, &labels) > sheet.horizon { Err((7, 0)) } else { Ok(labels) }
+    if ends(sheet, &labels) > sheet.horizon { Err((7, 0)) } else { Ok(labels) }
 }
 
 /// Number and place of grounds 6 and 12, or the labels that are least under any horizon.
@@ -217,7 +217,13 @@ pub fn least_ever(sheet: &Sheet, cuts: &[Vec<Vec<u32>>]) -> Result<Vec<Label>, (
     }
 }
 
-/// The greatest step among all ready labels.
-pub fn latency(sheet: &Sheet, labels: &[Label]) -> u32 {
+/// The greatest step among the ready labels of all nodes. Labels that are legal under some horizon are so within this one and within none below it.
+pub fn ends(sheet: &Sheet, labels: &[Label]) -> u32 {
     sheet.nodes.iter().zip(labels).map(|(node, &label)| ready(node, label).0).max().unwrap_or(0)
+}
+
+/// The greatest step among the ready labels of nodes with the output mark, and 0 if none has it (document 02, U7).
+pub fn latency(sheet: &Sheet, labels: &[Label]) -> u32 {
+    let outputs = sheet.nodes.iter().zip(labels).filter(|(node, _)| node.output);
+    outputs.map(|(node, &label)| ready(node, label).0).max().unwrap_or(0)
 }

@@ -221,6 +221,16 @@ pub fn table(output: bool, operands: &[u32]) -> Node {
     Node { kind: 1, output, delay: 1, operands: operands.to_vec(), ..input() }
 }
 
+/// A box that is no output.
+pub fn boxed(delay: u32, latency: u32, clock_to_q: u32, operands: &[u32]) -> Node {
+    Node { kind: 2, output: false, delay, latency, clock_to_q, operands: operands.to_vec() }
+}
+
+/// The differences of these triples: u, v and w.
+pub fn differences(triples: &[(u32, u32, i32)]) -> Vec<Difference> {
+    triples.iter().map(|&(from, to, weight)| Difference { from, to, weight }).collect()
+}
+
 /// What a made-up small sheet is drawn from: the greatest number of nodes, T, H and latency, and whether tables read many inputs.
 #[derive(Clone, Copy)]
 pub struct Size {

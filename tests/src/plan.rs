@@ -1,4 +1,4 @@
-//! A plan taken apart, what document 01 says of it, and its listing.
+//! A plan taken apart, what documents 01 and 02 say of it, and its listing.
 use crate::labels::{latency, plus, ready, Label};
 use crate::reader::Sheet;
 
@@ -57,7 +57,7 @@ impl Plan {
         (members, met)
     }
 
-    /// Checks what document 01 says of a plan, apart from which labels are least and which cut is chosen.
+    /// Checks what the documents say of a plan, apart from which labels are least and which cut is chosen.
     pub fn check(&self, sheet: &Sheet) {
         let ready_at = |u: u32| ready(&sheet.nodes[u as usize], self.labels[u as usize]);
         let mut used = vec![false; sheet.nodes.len()];

@@ -1,4 +1,4 @@
-//! A planner by brute force, for sheets of at most about 13 nodes: the rules of document 01 as written, over all cones.
+//! A planner by brute force, for sheets of at most about 13 nodes: the rules of documents 01 and 02 as written, over all cones.
 use crate::cones;
 use crate::labels::{self, Label};
 use crate::made::put;

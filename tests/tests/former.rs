@@ -1,5 +1,5 @@
-//! Sheets of document 01's form, whose nodes have no q: read here in that form and planned by brute force with document 01's ready label, against the
-//! planning call on the same sheet rewritten with q = 0 in every node (document 02, U5).
+//! Sheets of document 01's form, whose nodes have no q: read here in that form and planned by brute force with document 01's ready label and the
+//! latency of outputs (document 02, U7), against the planning call on the same sheet rewritten with q = 0 in every node (U5).
 #![cfg(planner)]
 use maps_tests::buffer::{after, lent};
 use maps_tests::compare::Met;
@@ -8,6 +8,7 @@ use maps_tests::labels::{legal_ever, plus, Label};
 use maps_tests::library::{plan, Answer};
 use maps_tests::limits::{fields, Range, CODE, H, K, KIND, M, MARK, N, T};
 use maps_tests::made::{code, input, long, memories, ring, small, spelled, stairs, table, weight, Size};
+use maps_tests::plan::Plan;
 use maps_tests::planner::{self, outcome};
 use maps_tests::random::Random;
 use maps_tests::reader::{self, Difference, Node, Refusal, Sheet};
@@ -122,7 +123,8 @@ fn planned(sheet: &Sheet) -> Result<Vec<u8>, Refusal> {
     // Nothing for nodes that have no cut.
     let chosen_of = |v: usize| chosen(fitting[v].iter().filter(|cut| arrival(sheet, &labels, v, cut) <= labels[v]).cloned()).unwrap_or_default();
     let chosen: Vec<Vec<u32>> = ids.clone().map(chosen_of).collect();
-    let latency = ids.map(|v| ready(&sheet.nodes[v], labels[v]).0).max().expect("a node");
+    // "Latency becomes the greatest ready step among nodes with the output mark, and 0 if none has it."
+    let latency = ids.filter(|&v| sheet.nodes[v].output).map(|v| ready(&sheet.nodes[v], labels[v]).0).max().unwrap_or(0);
     Ok(planner::plan(sheet, &labels, latency, &chosen))
 }
 
@@ -149,8 +151,8 @@ fn made_up_sheets_keep_their_plans() {
     println!("seed {SEED}");
     let mut random = Random::new(SEED);
     let mut met = Met::default();
-    // Plans with a node that reads a box with a latency, where q would enter.
-    let mut read_late = 0;
+    // Plans with a node that reads a box with a latency, where q would enter; and plans with a node in a step after their latency.
+    let (mut read_late, mut below) = (0, 0);
     for round in 0..24000 {
         let sheet = match round % 8 {
             0 => stairs(&mut random),
@@ -164,9 +166,11 @@ fn made_up_sheets_keep_their_plans() {
         let found = keeps(&spelled(&former(&sheet)), &mut met);
         let late = |u: &u32| sheet.nodes[*u as usize].latency > 0;
         read_late += u32::from(found.is_ok() && sheet.nodes.iter().any(|node| node.operands.iter().any(late)));
+        let plan = found.map(|bytes| Plan::decoded(sheet.nodes.len(), &bytes));
+        below += u32::from(plan.is_ok_and(|plan| plan.labels.iter().any(|label| label.0 > plan.latency)));
     }
-    println!("calls by number: {met:?}, plans with a reader of a box with a latency: {read_late}");
-    assert!([0, 6, 7, 8, 12].iter().all(|&number| met[number] > 2000) && read_late > 2000, "{met:?}, {read_late}");
+    println!("calls by number: {met:?}, plans with a reader of a box with a latency: {read_late}, with a node after the latency: {below}");
+    assert!([0, 6, 7, 8, 12].iter().all(|&number| met[number] > 2000) && read_late > 2000 && below > 1000, "{met:?}, {read_late}, {below}");
 }
 
 #[test]

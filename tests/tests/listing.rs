@@ -4,7 +4,7 @@
 use maps_tests::compare::Met;
 use maps_tests::library::plan;
 use maps_tests::limits::{H, W};
-use maps_tests::made::{self, any_q, chain, greatest, input, long, memories, numbers, respelled, small, spelled, stairs, table, Size};
+use maps_tests::made::{self, any_q, boxed, chain, differences, greatest, input, long, memories, numbers, respelled, small, spelled, stairs, table, Size};
 use maps_tests::plan::{refusal_line, Plan};
 use maps_tests::planner::planned;
 use maps_tests::programs::{compare_lines, in_pieces, program, STOP};
@@ -142,6 +142,17 @@ fn differences_of_one_to_five_digits() {
         let sheet = Sheet { leaves: 2, top: 1, horizon, nodes: nodes.clone(), differences };
         let expected = format!("latency {weight}\n0 0 0 used\n1 {weight} 0 used\n2 {weight} 1 used 0 1\n");
         compare(&spelled(&numbers(&sheet)), &expected);
+    }
+}
+
+#[test]
+fn the_latency_of_outputs() {
+    // A table in step 3, and a box on it with lat = 200, which is an output or not: its line says the same, and the first line does not.
+    for (marks, latency) in [([false, false], 0), ([true, false], 3), ([false, true], 203), ([true, true], 203)] {
+        let nodes = vec![input(), table(marks[0], &[0]), Node { output: marks[1], ..boxed(0, 200, 1, &[1]) }];
+        let sheet = Sheet { leaves: 2, top: 1, horizon: 203, nodes, differences: differences(&[(0, 1, 3)]) };
+        compare(&spelled(&numbers(&sheet)), &format!("latency {latency}\n0 0 0 used\n1 3 1 used 0\n2 3 1 used\n"));
+        compare(&spelled(&numbers(&Sheet { horizon: 202, ..sheet })), "refused 7 0\n");
     }
 }
 

@@ -1,22 +1,17 @@
 //! Sheets that are late within their H, and sheets with no legal labelling under any horizon (document 02, U6): the independent account of never
-//! against plain enumeration on tiny sheets, and the planning call on sheets close to never, at horizons round their latency and far from it, and on
+//! against plain enumeration on tiny sheets, and the planning call on sheets close to never, at horizons round their least one and far from it, and on
 //! sheets whose labels are past every H.
 #![cfg(planner)]
 use maps_tests::buffer::after;
 use maps_tests::compare::{compare, compare_all, planned, Met};
-use maps_tests::labels::{fitting_cuts, latency, least, least_ever, legal, Label};
+use maps_tests::labels::{ends, fitting_cuts, least, least_ever, legal, Label};
 use maps_tests::library::Answer;
 use maps_tests::limits::{fields, H, M, N, W};
-use maps_tests::made::{input, long, memories, numbers, respelled, ring, small, spelled, stairs, table, Size};
+use maps_tests::made::{boxed, differences, input, long, memories, numbers, respelled, ring, small, spelled, stairs, table, Size};
 use maps_tests::random::Random;
 use maps_tests::reader::{Difference, Node, Sheet};
 
 const SEED: u64 = 20260116;
-
-/// The differences of these triples.
-fn differences(triples: &[(u32, u32, i32)]) -> Vec<Difference> {
-    triples.iter().map(|&(from, to, weight)| Difference { from, to, weight }).collect()
-}
 
 /// The bytes of a sheet with another H.
 fn within(sheet: &Sheet, horizon: u32) -> Vec<u8> {
@@ -90,13 +85,13 @@ fn never_is_never_by_enumeration() {
     assert!(met[0] > 10000 && met[12] > 10000 && met[7] > 1000 && met[6] > 200 && by_levels > 150, "{met:?}, {by_levels}");
 }
 
-/// The least latency of a sheet under any horizon, if it has a legal labelling.
-fn least_latency(sheet: &Sheet) -> Option<u32> {
-    least_ever(sheet, &fitting_cuts(sheet)).ok().map(|labels| latency(sheet, &labels))
+/// The least horizon within which a sheet has a legal labelling, if it has one under any.
+fn least_horizon(sheet: &Sheet) -> Option<u32> {
+    least_ever(sheet, &fitting_cuts(sheet)).ok().map(|labels| ends(sheet, &labels))
 }
 
 /// A sheet with a difference or two more, where it has least labels: each holds two nodes as many steps apart as they are there, or one more. H is
-/// about the latency.
+/// about the step by which these labels end.
 fn tight(random: &mut Random, mut sheet: Sheet) -> Sheet {
     let n = sheet.nodes.len() as u32;
     if let Ok(labels) = least_ever(&sheet, &fitting_cuts(&sheet)) {
@@ -105,7 +100,7 @@ fn tight(random: &mut Random, mut sheet: Sheet) -> Sheet {
             let weight = labels[to as usize].0 as i32 - labels[from as usize].0 as i32 + random.within(0, 3) as i32 / 2;
             sheet.differences.push(Difference { from, to, weight: weight.clamp(-(W as i32), W as i32) });
         }
-        sheet.horizon = (latency(&sheet, &labels) + random.within(0, 4)).saturating_sub(2).min(H.1);
+        sheet.horizon = (ends(&sheet, &labels) + random.within(0, 4)).saturating_sub(2).min(H.1);
     }
     sheet
 }
@@ -178,14 +173,14 @@ fn sheets_close_to_never() {
 /// Horizons of every size.
 const HORIZONS: [u32; 9] = [0, 1, 2, 9, 127, 4_095, 16_384, H.1 - 1, H.1];
 
-/// Holds the planning call and brute force to a least latency under any horizon, or to never, at these horizons and at those next to the latency.
-fn at_horizons(name: &str, sheet: &Sheet, latency: Option<u32>, horizons: &[u32], met: &mut Met) {
-    let near = latency.map_or(Vec::new(), |latency| vec![latency.saturating_sub(1), latency, latency + 1]);
+/// Holds the planning call and brute force to a least horizon, or to never, at these horizons and at those next to the least one.
+fn at_horizons(name: &str, sheet: &Sheet, least: Option<u32>, horizons: &[u32], met: &mut Met) {
+    let near = least.map_or(Vec::new(), |least| vec![least.saturating_sub(1), least, least + 1]);
     for horizon in horizons.iter().copied().chain(near).filter(|&horizon| horizon <= H.1) {
         let found = compare(&within(sheet, horizon), met);
-        let expected = match latency {
+        let expected = match least {
             None => Err((12, 0)),
-            Some(latency) if latency > horizon => Err((7, 0)),
+            Some(least) if least > horizon => Err((7, 0)),
             Some(_) => Ok(()),
         };
         assert_eq!(found.map(|_| ()), expected, "{name} within {horizon}: {sheet:?}");
@@ -193,11 +188,11 @@ fn at_horizons(name: &str, sheet: &Sheet, latency: Option<u32>, horizons: &[u32]
 }
 
 #[test]
-fn horizons_round_the_latency() {
+fn horizons_round_the_least_one() {
     println!("seed {}", SEED + 2);
     let mut random = Random::new(SEED + 2);
     let mut met = Met::default();
-    // Sheets by their least latency: 0, one within H, one within the greatest H, one past it, never.
+    // Sheets by their least horizon: 0, one within H, one within the greatest H, one past it, never.
     let mut sheets = [0; 5];
     for round in 0..8000 {
         let sheet = made_up(&mut random, round);
@@ -205,31 +200,26 @@ fn horizons_round_the_latency() {
         if let Err((6, _)) = least(&sheet) {
             continue;
         }
-        let latency = least_latency(&sheet);
-        at_horizons("made up", &sheet, latency, &[0, sheet.horizon, H.1], &mut met);
-        sheets[match latency {
+        let least = least_horizon(&sheet);
+        at_horizons("made up", &sheet, least, &[0, sheet.horizon, H.1], &mut met);
+        sheets[match least {
             None => 4,
             Some(0) => 0,
-            Some(latency) if latency <= sheet.horizon => 1,
-            Some(latency) if latency <= H.1 => 2,
+            Some(least) if least <= sheet.horizon => 1,
+            Some(least) if least <= H.1 => 2,
             Some(_) => 3,
         }] += 1;
     }
-    println!("calls by number: {met:?}, sheets by latency: {sheets:?}");
+    println!("calls by number: {met:?}, sheets by least horizon: {sheets:?}");
     assert!(sheets.iter().all(|&count| count > 200), "{sheets:?}");
     assert!([0, 7, 8, 12].iter().all(|&number| met[number] > 3000), "{met:?}");
 }
 
-/// A box.
-fn boxed(delay: u32, latency: u32, clock_to_q: u32, operands: &[u32]) -> Node {
-    Node { kind: 2, output: false, delay, latency, clock_to_q, operands: operands.to_vec() }
-}
-
-/// Holds the planning call to the least latency of sheets that differ in their differences alone, at horizons of every size.
+/// Holds the planning call to the least horizon of sheets that differ in their differences alone, at horizons of every size.
 fn cases(name: &str, leaves: u32, top: u32, nodes: &[Node], rows: &[(&[(u32, u32, i32)], Option<u32>)]) {
-    for (triples, latency) in rows {
+    for (triples, least) in rows {
         let sheet = Sheet { leaves, top, horizon: 0, nodes: nodes.to_vec(), differences: differences(triples) };
-        at_horizons(&format!("{name} {triples:?}"), &sheet, *latency, &HORIZONS, &mut Met::default());
+        at_horizons(&format!("{name} {triples:?}"), &sheet, *least, &HORIZONS, &mut Met::default());
     }
 }
 
@@ -350,8 +340,8 @@ fn round_again(order: &[u32], weight: i32) -> Sheet {
 fn rings_that_settle_late() {
     for length in [0, 1, 2, 5, 12, 40, N.1 - 7] {
         for (name, order) in orders(length) {
-            for (weight, latency) in [(-1, Some(1)), (0, Some(2)), (1, None)] {
-                at_horizons(name, &round_again(&order, weight), latency, &[0, H.1], &mut Met::default());
+            for (weight, least) in [(-1, Some(1)), (0, Some(2)), (1, None)] {
+                at_horizons(name, &round_again(&order, weight), least, &[0, H.1], &mut Met::default());
             }
         }
     }
@@ -380,9 +370,9 @@ fn labels_past_every_horizon() {
     let mut met = Met::default();
     let horizons = [0, 255, H.1];
     // Two to a few nodes, whose last is just within the greatest H, just past it and further.
-    for (weights, latency) in [(&[1, 65_534][..], H.1), (&[1, 65_535], H.1 + 1), (&[65_535, 65_535], 2 * W), (&[65_535; 9], 9 * W)] {
+    for (weights, least) in [(&[1, 65_534][..], H.1), (&[1, 65_535], H.1 + 1), (&[65_535, 65_535], 2 * W), (&[65_535; 9], 9 * W)] {
         let all: Vec<(u32, u32, i32)> = (0..).zip(weights).map(|(i, &w)| (i, i + 1, w)).collect();
-        cases("path", 2, 1, &vec![input(); weights.len() + 1], &[(&all, Some(latency))]);
+        cases("path", 2, 1, &vec![input(); weights.len() + 1], &[(&all, Some(least))]);
     }
     for (name, order) in orders(N.1) {
         for back in [false, true] {

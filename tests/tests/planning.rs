@@ -1,14 +1,15 @@
 //! The planning call against a planner by brute force: number, place and every byte of the buffer, on made-up small sheets, damaged sheets and random
-//! bytes; against the definition of least labels on tiny sheets; and what can be checked without brute force on sheets at every limit.
+//! bytes; against the definition of least labels and the least latency on tiny sheets; and what can be checked without brute force on sheets at every
+//! limit.
 #![cfg(planner)]
 use maps_tests::buffer::after;
-use maps_tests::compare::{compare, compare_all, planned, Met, NUMBERS};
+use maps_tests::compare::{compare, compare_all, listing, planned, Met, NUMBERS};
 use maps_tests::header::defined;
-use maps_tests::labels::{carried, fitting_cuts, least, legal, Label};
+use maps_tests::labels::{carried, ends, fitting_cuts, latency, least, legal, Label};
 use maps_tests::library::{plan, Answer};
 use maps_tests::limits::{fields, width, H, N, T, W};
 use maps_tests::made::{self, chain, damaged, greatest, input, long, memories, numbers, respelled, ring, small, spelled, stairs, table, variant, Size};
-use maps_tests::plan::{refusal_line, Plan};
+use maps_tests::plan::Plan;
 use maps_tests::planner;
 use maps_tests::random::Random;
 use maps_tests::reader::{Difference, Node, Refusal, Sheet};
@@ -50,12 +51,14 @@ struct Lengths {
     latencies: [u32; 3],
     /// Plans that have a step of so many bytes.
     steps: [u32; 3],
-    /// Plans whose latency is H, by H.
+    /// Plans whose last node is ready in step H, by H.
     full: [u32; 3],
+    /// Plans whose latency is H, by H.
+    to_output: [u32; 3],
     /// Sheets that are refused 7 and legal within an H that is greater by 20, by H.
     late: [u32; 3],
-    /// Those of `full` and those of `late` that have the greatest H.
-    greatest: [u32; 2],
+    /// Those of `full`, of `to_output` and of `late` that have the greatest H.
+    greatest: [u32; 3],
 }
 
 impl Lengths {
@@ -67,12 +70,15 @@ impl Lengths {
                 let plan = Plan::decoded(sheet.nodes.len(), plan);
                 self.latencies[width(plan.latency) - 1] += 1;
                 (1..=3).for_each(|bytes| self.steps[bytes - 1] += u32::from(plan.labels.iter().any(|label| width(label.0) == bytes)));
-                self.full[bytes] += u32::from(plan.latency == sheet.horizon);
-                self.greatest[0] += greatest * u32::from(plan.latency == sheet.horizon);
+                let (full, to_output) = (ends(sheet, &plan.labels) == sheet.horizon, plan.latency == sheet.horizon);
+                self.full[bytes] += u32::from(full);
+                self.greatest[0] += greatest * u32::from(full);
+                self.to_output[bytes] += u32::from(to_output);
+                self.greatest[1] += greatest * u32::from(to_output);
             }
             Err((7, _)) if least(&Sheet { horizon: sheet.horizon + 20, ..sheet.clone() }).is_ok() => {
                 self.late[bytes] += 1;
-                self.greatest[1] += greatest;
+                self.greatest[2] += greatest;
             }
             Err(_) => {}
         }
@@ -84,30 +90,31 @@ fn sheets_with_long_paths() {
     println!("seed {}", SEED + 9);
     let mut random = Random::new(SEED + 9);
     let (mut met, mut lengths) = (Met::default(), Lengths::default());
-    for _ in 0..12000 {
+    for _ in 0..36000 {
         let sheet = long(&mut random);
         lengths.count(&sheet, &compare(&spelled(&numbers(&sheet)), &mut met));
     }
     println!("calls by number: {met:?}, {lengths:?}");
-    assert!(met[0] > 5000 && met[7] > 3000 && met[12] > 3000, "{met:?}");
-    let Lengths { latencies, steps, full, late, greatest } = lengths;
-    assert!([latencies, steps, full, late].iter().flatten().chain(&greatest).all(|&count| count > 100), "each occurs often");
+    assert!(met[0] > 15000 && met[7] > 9000 && met[12] > 9000, "{met:?}");
+    let Lengths { latencies, steps, full, to_output, late, greatest } = lengths;
+    assert!([latencies, steps, full, late].iter().flatten().chain([&greatest[0], &greatest[2]]).all(|&count| count > 300), "each occurs often");
+    assert!(to_output.iter().chain([&greatest[1]]).all(|&count| count > 100), "each occurs often");
 }
 
 #[test]
 fn every_step() {
-    // Two inputs w steps apart: within w, and not within less.
-    let apart = |horizon: u32, w: u32| spelled(&[2, 1, horizon, 2, 1, 0, 0, 0, 0, 0, 0, 0, 0, 0, 0, 0, 0, 0, 1, 2 * w]);
+    // Two inputs w steps apart, the second an output or not: within w, and not within less.
+    let apart = |mark: u32, horizon: u32, w: u32| spelled(&[2, 1, horizon, 2, 1, 0, 0, 0, 0, 0, 0, 0, mark, 0, 0, 0, 0, 0, 1, 2 * w]);
     let mut of_three = 0;
-    for w in 0..=W {
-        let plan = spelled(&[w, 0, 0, 0, 0, w, 0, 0, 0]);
+    for (w, mark) in (0..=W).flat_map(|w| [(w, 0), (w, 1)]) {
+        let plan = spelled(&[w * mark, 0, 0, 0, 0, w, 0, mark, 0]);
         let accepted = Answer { number: 0, place: plan.len() as u64 };
-        assert_eq!(planned(&apart(w, w), plan.len()), (accepted, plan.clone()), "w = H = {w}");
-        assert_eq!(planned(&apart(H.1, w), plan.len()), (accepted, plan), "w = {w}");
+        assert_eq!(planned(&apart(mark, w, w), plan.len()), (accepted, plan.clone()), "w = H = {w}, mark {mark}");
+        assert_eq!(planned(&apart(mark, H.1, w), plan.len()), (accepted, plan), "w = {w}, mark {mark}");
         if w > 0 {
-            assert_eq!(planned(&apart(w - 1, w), 0), (Answer { number: 7, place: 0 }, Vec::new()), "w = {w}, one more than H");
+            assert_eq!(planned(&apart(mark, w - 1, w), 0), (Answer { number: 7, place: 0 }, Vec::new()), "w = {w}, one more than H, mark {mark}");
         }
-        of_three += u32::from(width(w) == 3);
+        of_three += mark * u32::from(width(w) == 3);
     }
     assert_eq!(of_three, 65_536 - 16_384);
 }
@@ -164,13 +171,13 @@ fn every_labelling(n: usize, choice: &[Label], each: &mut impl FnMut(&[Label])) 
     }
 }
 
-/// Holds the library to the definition of least labels on tiny sheets, over every labelling up to H + 2. Counts the numbers met, and how many sheets
-/// are refused 7 and legal within H + 2.
-fn compare_by_definition(seed: u64, rounds: u32, mut sheet: impl FnMut(&mut Random, u32) -> Sheet) -> (Met, u32) {
+/// Holds the library to the definition of least labels and to the least latency on tiny sheets, over every labelling up to H + 2. Counts the numbers
+/// met, how many sheets are refused 7 and legal within H + 2, and how many plans have a latency of 0, and above 0, while some node is ready later.
+fn compare_by_definition(seed: u64, rounds: u32, mut sheet: impl FnMut(&mut Random, u32) -> Sheet) -> (Met, u32, [u32; 2]) {
     println!("seed {seed}");
     let mut random = Random::new(seed);
     let mut met = Met::default();
-    let mut later = 0;
+    let (mut later, mut below) = (0, [0; 2]);
     for round in 0..rounds {
         let sheet = sheet(&mut random, round);
         let bytes = spelled(&numbers(&sheet));
@@ -188,9 +195,12 @@ fn compare_by_definition(seed: u64, rounds: u32, mut sheet: impl FnMut(&mut Rand
         met[answer.number as usize] += 1;
         match answer.number {
             0 => {
-                let labels = Plan::decoded(sheet.nodes.len(), &buffer[..answer.place as usize]).labels;
+                let Plan { latency: found, labels, .. } = Plan::decoded(sheet.nodes.len(), &buffer[..answer.place as usize]);
                 assert!(within.contains(&labels), "{sheet:?} {labels:?}");
                 assert!(beyond.iter().all(|other| labels.iter().zip(other).all(|(a, b)| a <= b)), "{sheet:?} {labels:?}");
+                assert_eq!(found, latency(&sheet, &labels), "{sheet:?} {labels:?}");
+                assert_eq!(Some(found), beyond.iter().map(|other| latency(&sheet, other)).min(), "the least latency of {sheet:?}");
+                below[usize::from(found > 0)] += u32::from(found < ends(&sheet, &labels));
                 assert_eq!(least(&sheet), Ok(labels));
             }
             6 => assert!(beyond.is_empty() && cuts[answer.place as usize].is_empty(), "{sheet:?}"),
@@ -206,23 +216,24 @@ fn compare_by_definition(seed: u64, rounds: u32, mut sheet: impl FnMut(&mut Rand
             number => panic!("number {number} for {sheet:?}"),
         }
     }
-    println!("sheets by number: {met:?}, refused 7 and legal within H + 2: {later}");
-    (met, later)
+    println!("sheets by number: {met:?}, refused 7 and legal within H + 2: {later}, a node ready after the latency: {below:?}");
+    (met, later, below)
 }
 
 #[test]
 fn labels_of_tiny_sheets_are_least_by_definition() {
-    let (met, later) = compare_by_definition(SEED + 3, 6000, |random, round| {
+    let (met, later, below) = compare_by_definition(SEED + 3, 6000, |random, round| {
         small(random, &Size { nodes: 4, top: 2, horizon: 2, latency: 2, wide: round % 3 == 0 })
     });
     assert!(met[0] > 1000 && met[6] > 50 && met[7] > 1000 && met[12] > 200 && later > 200);
+    assert!(below[0] > 200 && below[1] > 5, "{below:?}");
 }
 
 #[test]
 fn labels_of_tiny_sheets_with_memories_are_least_by_definition() {
     // Most of them have a memory with a q that another node reads.
     let mut read = 0;
-    let (met, later) = compare_by_definition(SEED + 11, 4000, |random, _| {
+    let (met, later, below) = compare_by_definition(SEED + 11, 4000, |random, _| {
         let sheet = memories(random, 4, 2, 3);
         let delivers = |u: &u32| sheet.nodes[*u as usize].clock_to_q > 0;
         read += u32::from(sheet.nodes.iter().any(|node| node.operands.iter().any(delivers)));
@@ -230,6 +241,7 @@ fn labels_of_tiny_sheets_with_memories_are_least_by_definition() {
     });
     println!("sheets with a reader of a memory with a q: {read}");
     assert!(met[0] > 1000 && met[7] > 1000 && met[12] > 100 && later > 500 && read > 1500, "{met:?}, {later}, {read}");
+    assert!(below[0] > 200 && below[1] > 50, "{below:?}");
 }
 
 /// The plan of a large sheet within a horizon, or the number of its refusal for time, whose place is 0.
@@ -278,12 +290,13 @@ fn large_plan(name: &str, sheet: &Sheet) -> (u64, Option<Plan>) {
             assert_eq!(planned(&bytes, 0), (short, Vec::new()));
             let found = decoded(&buffer[..length]);
             found.check(sheet);
-            // Least labels are those of every horizon from the latency on.
-            for horizon in [found.latency, H.1] {
+            // Least labels are those of every horizon from the step on by which they end, and there are none below it, also where outputs end before.
+            let ends = ends(sheet, &found.labels);
+            for horizon in [ends, H.1] {
                 assert!(within(sheet, horizon).is_ok_and(|same| same == buffer[..length]), "{name}: within {horizon}");
             }
-            for horizon in [0, found.latency.saturating_sub(1)].into_iter().filter(|&horizon| horizon < found.latency) {
-                assert_eq!(within(sheet, horizon), Err(7), "{name}: within {horizon}, less than the latency");
+            for horizon in [0, found.latency, ends.saturating_sub(1)].into_iter().filter(|&horizon| horizon < ends) {
+                assert_eq!(within(sheet, horizon), Err(7), "{name}: within {horizon}, and the labels end at {ends}");
             }
             plan = Some(found);
         }
@@ -293,7 +306,8 @@ fn large_plan(name: &str, sheet: &Sheet) -> (u64, Option<Plan>) {
         }
         7 => {
             assert_eq!((answer.place, within(sheet, 0)), (0, Err(7)), "{name}");
-            assert!(within(sheet, H.1).map_or_else(|number| number == 7, |later| decoded(&later).latency > sheet.horizon), "{name}: late within H");
+            let late = |later: Vec<u8>| ends(sheet, &decoded(&later).labels) > sheet.horizon;
+            assert!(within(sheet, H.1).map_or_else(|number| number == 7, late), "{name}: late within H");
         }
         12 => assert_eq!([0, sheet.horizon, 4_095, H.1].map(|horizon| within(sheet, horizon)), [const { Err(12) }; 4], "{name}"),
         number => panic!("{name}: number {number}"),
@@ -383,8 +397,8 @@ fn large_made_up_sheets() {
     println!("seed {}", SEED + 5);
     let mut random = Random::new(SEED + 5);
     let mut met = Met::default();
-    // Plans by the bytes of their latency.
-    let mut latencies = [0; 3];
+    // Plans by the bytes of their latency, and how many have a node that is ready after it.
+    let (mut latencies, mut below) = ([0; 3], 0);
     // Sheets that were accepted and then pushed past every H, by number.
     let mut pushed = Met::default();
     for round in 0..400 {
@@ -393,14 +407,15 @@ fn large_made_up_sheets() {
         met[number as usize] += 1;
         if let Some(plan) = plan {
             latencies[width(plan.latency) - 1] += 1;
+            below += u32::from(plan.latency < ends(&sheet, &plan.labels));
             sheet.differences.truncate(1022);
             sheet.differences.extend([(0, 128), (128, 255)].map(|(from, to)| Difference { from, to, weight: W as i32 }));
             pushed[large("pushed", &sheet) as usize] += 1;
         }
     }
-    println!("sheets by number: {met:?}, pushed: {pushed:?}, plans by their latency's bytes: {latencies:?}");
+    println!("sheets by number: {met:?}, pushed: {pushed:?}, plans by their latency's bytes: {latencies:?}, a node ready after it: {below}");
     assert!([0, 6, 12].iter().all(|&number| met[number] > 20) && pushed[7] > 100 && pushed[12] > 20, "{met:?}, {pushed:?}");
-    assert!(latencies[1] > 50 && latencies[2] > 50, "{latencies:?}");
+    assert!(latencies[1] > 50 && latencies[2] > 50 && below > 50, "{latencies:?}, {below}");
 }
 
 /// Sheets that were made to be slow: a ring whose ids run in zigzag over operands that it pushes itself, tables with costly cuts, and a long chain of
@@ -422,19 +437,6 @@ fn hall(leaves: u32, top: u32, horizon: u32, differences: &[(u32, u32, i32)]) ->
     nodes.extend([table(false, &[0, 1]), table(false, &[3, 2]), table(true, &[4, 3])]);
     let differences = differences.iter().map(|&(from, to, weight)| Difference { from, to, weight }).collect();
     spelled(&numbers(&Sheet { leaves, top, horizon, nodes, differences }))
-}
-
-/// The listing of what the library gives, also held against the planner by brute force.
-fn listing(bytes: &[u8]) -> String {
-    let _ = compare(bytes, &mut Met::default());
-    let (answer, buffer) = planned(bytes, 5000);
-    if answer.number != 0 {
-        return refusal_line(answer.number, answer.place);
-    }
-    let sheet = maps_tests::reader::read(bytes).expect("an accepted sheet reads");
-    let plan = Plan::decoded(sheet.nodes.len(), &buffer[..answer.place as usize]);
-    plan.check(&sheet);
-    plan.listing()
 }
 
 #[test]
@@ -528,7 +530,7 @@ fn reader_of(kind: u32, output: bool, delay: u32, operands: &[u32]) -> Node {
 fn memories_that_deliver_after_the_clock_edge() {
     // U5: the box with lat = 2 and q = 3 is (0, 0) and ready at (2, 3).
     let read_by = |nodes: &[Node]| listing(&memory(2, 3, nodes));
-    assert_eq!(read_by(&[]), "latency 2\n0 0 0 used\n1 0 0 used\n");
+    assert_eq!(read_by(&[]), "latency 0\n0 0 0 used\n1 0 0 used\n");
     let table = |delay| reader_of(1, true, delay, &[1]);
     assert_eq!(read_by(&[table(1)]), "latency 2\n0 0 0 used\n1 0 0 used\n2 2 4 used 1\n");
     for delay in 2..=4 {
@@ -536,7 +538,7 @@ fn memories_that_deliver_after_the_clock_edge() {
     }
     // A box that reads it likewise, and is there at level q also with d = 0.
     for (delay, label) in [(0, "2 3"), (1, "2 4"), (2, "3 2"), (3, "3 3"), (4, "3 4")] {
-        let found = read_by(&[reader_of(2, false, delay, &[1])]);
+        let found = read_by(&[reader_of(2, true, delay, &[1])]);
         assert_eq!(found, format!("latency {}\n0 0 0 used\n1 0 0 used\n2 {label} used\n", &label[..1]));
     }
     // A table with d = 1 that hides one with d = 2: of the hidden one, which is (3, 2), its step alone is waited for.
@@ -572,7 +574,7 @@ fn every_q_below_every_delay() {
 fn q_enters_no_step() {
     // Differences, latency and horizon use steps: the memory is ready in step 2 whatever its q is.
     let sheet = |clock_to_q: u32, horizon: u32, differences: &[(u32, u32, i32)]| {
-        let nodes = vec![input(), Node { kind: 2, latency: 2, clock_to_q, operands: vec![0], ..input() }, input()];
+        let nodes = vec![input(), Node { kind: 2, output: true, latency: 2, clock_to_q, operands: vec![0], ..input() }, input()];
         let differences = differences.iter().map(|&(from, to, weight)| Difference { from, to, weight }).collect();
         spelled(&numbers(&Sheet { leaves: 2, top: 4, horizon, nodes, differences }))
     };
