@@ -15,6 +15,8 @@
  *  - Refused for time, by 7 or 12, is exactly the sheet that has no legal labels within H. 7: a larger H would do, or would if H could be larger than
  *    65,535. 12: no horizon would, some wishes of the sheet clash, and raising H never helps.
  *  - The labels of a plan are the least legal ones, and the cuts are the chosen ones under those labels.
+ *  - The first number of a plan, its latency, is the greatest ready step among outputs, of any kind, and 0 where there is none; no legal labels have a
+ *    smaller one. A node that is no output may be ready later, within H.
  *
  * Promised of maps_write:
  *  - It refuses with 3, 4 and 8: 3 or 4 at the first number of the sheet that a reader would refuse, and place is which number of the sheet that

@@ -92,6 +92,7 @@ module _ (bytes buffer : List ℕ) (number place : ℕ) (after : List ℕ) where
   pub record LeastPlan (S : Sheet) : Type 0 where
     pub labels : List Label
     pub least : LeastLabels S labels
+    -- among outputs: "the least latency of demand 3 is meant in this sense" (document 02, U7)
     pub latency : (M : ℕ → Label) (G : ℕ) → Legal S M G → planLatency S (at labels) ≤ planLatency S M
     pub covers : Covers S labels
     pub answered : (number ≡ 0) ⊎ (number ≡ 8)
