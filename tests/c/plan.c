@@ -24,6 +24,14 @@ static int planned(const uint8_t *sheet, size_t length, size_t room, uint64_t nu
     return holds && (plan == NULL || memcmp(bytes + STRIP, plan, written) == 0);
 }
 
+/* A sheet has this plan: in an ample buffer, in an exact one, in one that is a byte short, and asked for its length alone. */
+static int accepted(const uint8_t *sheet, size_t length, const uint8_t *plan, size_t plan_length) {
+    int holds = planned(sheet, length, ROOM, MAPS_ACCEPTED, plan_length, plan);
+    holds = planned(sheet, length, plan_length, MAPS_ACCEPTED, plan_length, plan) && holds;
+    holds = planned(sheet, length, plan_length - 1, MAPS_BUFFER_SHORT, plan_length, NULL) && holds;
+    return same(maps_plan_length(sheet, length), MAPS_ACCEPTED, plan_length) && holds;
+}
+
 /* One case: a sheet in an ample buffer, in none, and asked for its plan's length alone. */
 static void expect(const char *name, const uint8_t *sheet, size_t length, uint64_t number, uint64_t place, const uint8_t *plan) {
     int holds = planned(sheet, length, ROOM, number, place, plan);
@@ -128,8 +136,7 @@ static void refused(const char *name, struct three h, struct three w, uint64_t n
     expect(name, sheet, sizeof sheet, number, place, NULL);
 }
 
-/* One case: the hall sheet with this H and w has its plan but for the latency and the step of node 5, which are given; in an ample buffer, in an
- * exact one and in one that is a byte short. */
+/* One case: the hall sheet with this H and w has its plan but for the latency and the step of node 5, which are given. */
 static void stretched(const char *name, struct three h, struct three w, struct three step) {
     uint8_t sheet[sizeof HALL + 4], plan[sizeof HALL_PLAN + 4];
     stretch(sheet, h, w);
@@ -137,10 +144,7 @@ static void stretched(const char *name, struct three h, struct three w, struct t
     memcpy(plan + 3, HALL_PLAN + 1, 22);
     memcpy(plan + 25, step.bytes, 3);
     memcpy(plan + 28, HALL_PLAN + 24, 5);
-    int holds = planned(sheet, sizeof sheet, ROOM, MAPS_ACCEPTED, sizeof plan, plan);
-    holds = planned(sheet, sizeof sheet, sizeof plan, MAPS_ACCEPTED, sizeof plan, plan) && holds;
-    holds = planned(sheet, sizeof sheet, sizeof plan - 1, MAPS_BUFFER_SHORT, sizeof plan, NULL) && holds;
-    check(same(maps_plan_length(sheet, sizeof sheet), MAPS_ACCEPTED, sizeof plan) && holds, name);
+    check(accepted(sheet, sizeof sheet, plan, sizeof plan), name);
 }
 
 /* H and w of three bytes, and plans with such a latency and step. */
@@ -278,10 +282,7 @@ static void ends_at(const char *name, const uint8_t *sheet, size_t length, uint8
     uint8_t bytes[ROOM];
     memcpy(bytes, sheet, length);
     bytes[2] = end;
-    int holds = planned(bytes, length, ROOM, MAPS_ACCEPTED, plan_length, plan);
-    holds = planned(bytes, length, plan_length, MAPS_ACCEPTED, plan_length, plan) && holds;
-    holds = planned(bytes, length, plan_length - 1, MAPS_BUFFER_SHORT, plan_length, NULL) && holds;
-    holds = same(maps_plan_length(bytes, length), MAPS_ACCEPTED, plan_length) && holds;
+    int holds = accepted(bytes, length, plan, plan_length);
     while (bytes[2] > 0) {
         bytes[2]--;
         holds = planned(bytes, length, ROOM, MAPS_LATE, 0, NULL) && holds;
@@ -319,13 +320,9 @@ static void three_inputs(const char *name, const uint8_t marks[3], uint8_t secon
 /* One case: two inputs, 65,535 steps from the first to the second, which has this mark. */
 static void far_apart(const char *name, uint8_t mark, const uint8_t *plan, size_t length) {
     uint8_t sheet[] = {2, 1, 0xff, 0xff, 0x03, 2, 1, 0, 0, 0, 0, 0, 0, 0, mark, 0, 0, 0, 0, 0, 1, 0xfe, 0xff, 0x07};
-    int holds = planned(sheet, sizeof sheet, ROOM, MAPS_ACCEPTED, length, plan);
-    holds = planned(sheet, sizeof sheet, length, MAPS_ACCEPTED, length, plan) && holds;
-    holds = planned(sheet, sizeof sheet, length - 1, MAPS_BUFFER_SHORT, length, NULL) && holds;
-    holds = same(maps_plan_length(sheet, sizeof sheet), MAPS_ACCEPTED, length) && holds;
+    int holds = accepted(sheet, sizeof sheet, plan, length);
     sheet[2] = 0xfe;
-    holds = planned(sheet, sizeof sheet, ROOM, MAPS_LATE, 0, NULL) && holds;
-    check(holds, name);
+    check(planned(sheet, sizeof sheet, ROOM, MAPS_LATE, 0, NULL) && holds, name);
 }
 
 /* The latency is the greatest ready step among outputs, and the horizon binds every node. */
