@@ -129,7 +129,7 @@ kind-back (box lat q) = refl
 pub kind-tabled : (S : Sheet) (g : List ℕ) → Tabled S g → (v : ℕ) → v < 256 → kindAt g v ≡ node S v .kind
 kind-tabled S g t v l = rw (t .kinds v l, t .latencies v l, t .clocks v l) (kind-back (node S v .kind))
 
--- the mark too
+-- the output mark in the table of a sheet is the node's
 pub output-tabled : (S : Sheet) (g : List ℕ) → Tabled S g → (v : ℕ) → v < 256 → eqb (markIn g v) 1 ≡ node S v .output
 output-tabled S g t v l = ap (λ (x : ℕ). eqb x 1) (t .marks v l) ∙ mark-again (node S v .output)
 

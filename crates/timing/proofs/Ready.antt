@@ -1,4 +1,4 @@
--- The ready steps of the tables are those of the labels: whether all are within a horizon, and the greatest of the outputs'.
+-- The ready steps of the tables are those of the labels: whether all are within a horizon, and the greatest among the outputs.
 use Prim.Native.Nat.{ℕ, _+_, _≤_, _<_, max}
 use mathlib.Core.Path.{_≡_, refl, ap, _∙_}
 use mathlib.Core.Bool.{Bool, true, false, cond}
@@ -60,7 +60,7 @@ greatest-same : (x y : ℕ → ℕ) (vs : List ℕ) → All (λ v. x v ≡ y v) 
 greatest-same x y [] h = refl
 greatest-same x y (v ∷ vs) h = omega (arith, greatest-same x y vs (h .1), h .0)
 
--- of the elements that are kept, where any other counts 0
+-- over a selection: as over all, where what is left out counts 0
 greatest-kept : (p : ℕ → Bool) (x : ℕ → ℕ) (vs : List ℕ) → greatest (λ v. cond (p v) (x v) 0) vs ≡ greatest x (keep p vs)
 greatest-kept p x [] = refl
 greatest-kept p x (v ∷ vs) = go (p v) (greatest-kept p x vs)
