@@ -7,10 +7,10 @@ use mathlib.Core.Logic.{_⊎_, inl, inr}
 use native.Mathlib.Omega.{arith}
 use lib.Dec.{leb}
 use Rattle.maps.specs.Label.{Label, label, leq, later, plus, ready, _≼_}
-use Rattle.maps.specs.Code.{fitted}
 use Rattle.maps.proofs.Order.{≼-refl, ≼-trans, leq-true, ≼-leq, leq-decides, later-is, later-left, later-right, ready-step}
 use Rattle.maps.proofs.Over.{last-or}
 use Rattle.maps.proofs.Fix.{label-path}
+use Rattle.types.specs.Code.{fitted}
 use Rattle.rows.specs.Table.{latencyIn, clockIn, delayIn, operandIn}
 use Rattle.bound.specs.Lookup.{labelIn, arrivalIn, Soon}
 use Rattle.bound.specs.Bound.{Carrying, Latest}

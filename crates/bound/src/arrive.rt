@@ -2,20 +2,20 @@
 ghost use mathlib.Core.Path.{_≡_};
 ghost use Prim.Native.Nat.{ℕ, _+_, _<_};
 ghost use lib.ListN.{getD, set, replicate};
-ghost use Rattle.maps.specs.Code.{labelOf};
 ghost use Rattle.maps.specs.Label.{earliest};
+ghost use Rattle.types.specs.Code.{labelOf};
 ghost use Rattle.rows.specs.Table.{latencyIn, countIn, Falling};
 ghost use Rattle.bound.specs.Lookup.{labelIn, arrivalIn, Soon};
 ghost use Rattle.bound.specs.Bound.{Carrying, Latest, LabelPlaced};
-use maps::Label;
-use maps::Level;
-use maps::Step;
 use rows::Graph;
 use rows::clock_to_q_in;
 use rows::count_in;
 use rows::delay_in;
 use rows::latency_in;
 use rows::operand_in;
+use types::Label;
+use types::Level;
+use types::Step;
 
 // The step of each node's label.
 pub type Steps = [u32; 256];

@@ -4,7 +4,7 @@ ghost use mathlib.Core.List.{List};
 ghost use Prim.Native.Nat.{ℕ, _+_, _<_, _≤_, max};
 ghost use lib.ListN.{length};
 ghost use Rattle.maps.specs.Sheet.{Sheet};
-ghost use Rattle.maps.specs.Code.{labelOf};
+ghost use Rattle.types.specs.Code.{labelOf};
 ghost use Rattle.rows.specs.Table.{countIn, toIn, Falling};
 ghost use Rattle.relax.specs.Settle.{Asks};
 ghost use Rattle.bound.specs.Lookup.{labelIn, Linked, Heeding, Soon};
@@ -15,8 +15,6 @@ use crate::arrive::Steps;
 use crate::arrive::label_of;
 use crate::arrive::ready_step;
 use crate::arrive::step_of;
-use maps::Label;
-use maps::Step;
 use rows::Differences;
 use rows::Graph;
 use rows::Header;
@@ -24,6 +22,8 @@ use rows::count_in;
 use rows::delay_in;
 use rows::difference_in;
 use rows::operand_in;
+use types::Label;
+use types::Step;
 
 // Puts difference i at the head of its target's list.
 pub fn link_one(differences: &Differences, first: &mut [u32; 256], next: &mut [u32; 1024], i: u32)

@@ -4,7 +4,7 @@ use mathlib.Core.Path.{_≡_}
 use mathlib.Core.List.{List}
 use Rattle.maps.specs.Outcome as Maps
 use Rattle.maps.specs.Outcome.{outcomeNumber, outcomePlace, bufferAfter}
-use Rattle.maps.specs.Code.{numberOf, placeOf}
+use Rattle.types.specs.Code.{numberOf, placeOf}
 use Rattle.bytes.specs.declared.Outcome.{Outcome}
 use Rattle.bytes.specs.declared.Outcome.the-variants.{Written, Refused}
 

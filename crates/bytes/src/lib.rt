@@ -7,7 +7,7 @@ ghost use Rattle.maps.specs.Number.{encoded, bytesFor, values};
 ghost use Rattle.maps.specs.Outcome.{within};
 ghost use Rattle.bytes.specs.Put.{Put};
 ghost use Rattle.bytes.specs.Outcome.{Answered, numberAnswered, placeAnswered};
-use maps::Refusal;
+use types::Refusal;
 
 // What a call comes to: the length of what was written, or the refusal.
 pub enum Outcome {

@@ -26,14 +26,14 @@ use level::codes;
 use level::keep_cut;
 use level::leaf_count_in;
 use level::leaf_in;
-use maps::Kind;
-use maps::Level;
 use rows::Graph;
 use rows::Header;
 use rows::count_in;
 use rows::kind_in;
 use rows::operand_in;
 use rows::output_in;
+use types::Kind;
+use types::Level;
 
 // Whether v is used: an output, a box, or marked already.
 fn is_used(graph: &Graph, used: &[u8; 256], v: u32) -> bool

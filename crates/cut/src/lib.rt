@@ -5,14 +5,14 @@ ghost use mathlib.Core.List.{_++_};
 ghost use Prim.Native.Nat.{ℕ, _+_, _<_, _≤_};
 ghost use lib.ListN.{length, take};
 ghost use Rattle.maps.specs.Sheet.{Sheet, isLogic};
-ghost use Rattle.maps.specs.Code.{kindMeant};
+ghost use Rattle.types.specs.Code.{kindMeant};
 ghost use Rattle.rows.specs.Table.{Falling};
 ghost use Rattle.flow.specs.Search.{Flow, Settled, Final, Turned, bit, leafMark, single, rising};
 ghost use Rattle.cut.specs.Question.{AllowedCut, Fewest, Best, codeFor, Asked};
 use flow::augment;
 use flow::expand;
-use maps::Kind;
 use rows::Graph;
+use types::Kind;
 
 mod quick;
 

@@ -7,7 +7,7 @@ ghost use lib.Dec.{leb};
 ghost use lib.ListN.{length, getD, take, drop};
 ghost use Rattle.maps.specs.Lists.{all};
 ghost use Rattle.maps.specs.Limits.{sizeRange, operandsMost};
-ghost use Rattle.maps.specs.Code.{kindMeant};
+ghost use Rattle.types.specs.Code.{kindMeant};
 ghost use Rattle.blif.specs.Words.{Word};
 ghost use Rattle.blif.specs.Scan.{wordsAt};
 ghost use Rattle.blif.specs.Names.{Definition, definition, kindOf, namesOf, has, fresh, defined, inputsOf};
@@ -18,9 +18,6 @@ ghost use Rattle.names.specs.Table.{namesIn, Listed};
 ghost use Rattle.subset.specs.Meant.{statementMeant, Shaped};
 ghost use Rattle.definitions.specs.Rows.{rowMeant};
 ghost use Rattle.definitions.specs.Kept.{Kept, Added, Lawful};
-use maps::Kind;
-use maps::Level;
-use maps::Step;
 use names::Names;
 use names::add_name;
 use names::id_of;
@@ -30,6 +27,9 @@ use records::put_row;
 use scan::after_blanks;
 use scan::after_word;
 use subset::Statement;
+use types::Kind;
+use types::Level;
+use types::Step;
 
 // The kind of a `.latch`: a box whose lat is 1 and whose q is 0.
 const LATCH: Kind = Kind::Box {

@@ -15,12 +15,12 @@ use Rattle.maps.specs.Number.{width, encoded, bytesFor}
 use Rattle.maps.specs.Form.{Rule, among, under, passes, ground}
 use Rattle.maps.specs.Sizes.{bytesMost}
 use Rattle.maps.specs.Write.{Entry, entry, Passes, First, valuesOf, spelled}
-use Rattle.maps.specs.declared.Refusal.{Refusal}
-use Rattle.maps.specs.declared.Refusal.the-variants.{Range, Operand}
 use Rattle.maps.proofs.Member.{All-join, All-split}
 use Rattle.maps.proofs.Spelling.{written-length}
 use Rattle.maps.proofs.WrittenSize.{within-bytes, id-bytes, most-append}
 use Rattle.maps.proofs.Numbers.{spelled-append, first-later, first-sooner, concat-snoc}
+use Rattle.types.specs.declared.Refusal.{Refusal}
+use Rattle.types.specs.declared.Refusal.the-variants.{Range, Operand}
 use Rattle.bytes.specs.Put.{Put}
 use Rattle.bytes.proofs.Putting.{put-none, put-within, put-then}
 use Rattle.fields.specs.declared.Position.{Position}

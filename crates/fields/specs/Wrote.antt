@@ -4,10 +4,10 @@ use mathlib.Core.Path.{_≡_}
 use mathlib.Core.List.{List}
 use lib.ListN.{length}
 use Rattle.maps.specs.Lists.{All}
-use Rattle.maps.specs.Code.{numberOf, placeOf}
 use Rattle.maps.specs.Write.{Entry, Passes, First, valuesOf, spelled}
 use Rattle.maps.specs.Sizes.{bytesMost}
-use Rattle.maps.specs.declared.Refusal.{Refusal}
+use Rattle.types.specs.Code.{numberOf, placeOf}
+use Rattle.types.specs.declared.Refusal.{Refusal}
 use Rattle.bytes.specs.Put.{Put}
 use Rattle.fields.specs.declared.Position.{Position}
 use Rattle.fields.specs.declared.Progress.{Progress}

@@ -9,10 +9,10 @@ ghost use Rattle.maps.specs.Sizes.{idBytesMost};
 ghost use Rattle.ranges.specs.Ranges.{spanMeant, fieldRange};
 ghost use Rattle.fields.specs.Wrote.{Room, Wrote};
 use bytes::put;
-use maps::Refusal;
 use ranges::Field;
 use ranges::Span;
 use ranges::range_of;
+use types::Refusal;
 
 // Where writing stands: the position of the next byte, and which number of the sheet comes next.
 pub struct Position {

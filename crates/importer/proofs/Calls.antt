@@ -8,10 +8,10 @@ use lib.ListN.{length, take, replicate, length-replicate}
 use borrow.Author.Tests.{le-leb, lt-leb}
 use Rattle.maps.specs.Outcome as Maps
 use Rattle.maps.specs.Outcome.{refusal}
-use Rattle.maps.specs.Code.{numberOf, placeOf}
-use Rattle.maps.specs.declared.Refusal.{Refusal}
 use Rattle.maps.specs.Records.{Records, recordsOf}
 use Rattle.maps.specs.Write.{writing}
+use Rattle.types.specs.Code.{numberOf, placeOf}
+use Rattle.types.specs.declared.Refusal.{Refusal}
 use Rattle.records.specs.Rows.{nodePlace, recordsIn}
 use Rattle.bytes.specs.Outcome.{Answered}
 use Rattle.blif.specs.Names.{Definition}

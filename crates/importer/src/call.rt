@@ -13,13 +13,13 @@ use crate::caller::delay_of;
 use crate::caller::is_callable;
 use bytes::Outcome;
 use definitions::Size;
-use maps::Refusal;
 use model::Model;
 use model::read_model;
 use names::Names;
 use outputs::Marked;
 use outputs::mark_outputs;
 use records::NODE;
+use types::Refusal;
 use writer::write;
 
 // Writes the sheet of a model that is kept, where all its outputs are defined.

@@ -8,7 +8,6 @@ use lib.Dec.{ltb}
 use lib.ListN.{length, getD}
 use borrow.Author.Tests.{ltb-true, ltb-false}
 use Rattle.maps.specs.Label.{Label, label, nextStep, _≼_}
-use Rattle.maps.specs.Code.{fitted}
 use Rattle.maps.specs.Sheet.{Sheet, node}
 use Rattle.maps.proofs.Member.{All-ids}
 use Rattle.maps.proofs.Fix.{label-path}
@@ -17,6 +16,7 @@ use Rattle.rows.specs.Table.{delayIn}
 use Rattle.rows.specs.declared.Header as R
 use Rattle.relax.specs.Guard.{Forced}
 use Rattle.maps.specs.Legal.{arrives, CutBy}
+use Rattle.types.specs.Code.{fitted}
 use Rattle.relax.specs.Settle.{Settles, Pass}
 use Rattle.relax.proofs.Closed.{well-closed}
 use Rattle.relax.proofs.Forced.{fitting-by}

@@ -10,9 +10,9 @@ ghost use Rattle.bound.specs.Lookup.{countOf, leafOf, Beside};
 ghost use Rattle.level.specs.Cuts.{Stored, TriedCut, FitTest, Lowest};
 use cut::ask;
 use cut::code_for;
-use maps::Kind;
 use rows::Graph;
 use rows::kind_in;
+use types::Kind;
 
 // A row for each of 256 nodes: how many leaves its cut has, then the leaves.
 pub type Cuts = [u32; 2048];

@@ -4,8 +4,8 @@ ghost use mathlib.Core.Bool.{false};
 ghost use Prim.Native.Nat.{ℕ, _+_, _-_, _<_, _≤_};
 ghost use lib.ListN.{length};
 ghost use Rattle.maps.specs.Label.{leq};
-ghost use Rattle.maps.specs.Code.{labelOf};
 ghost use Rattle.maps.specs.Sheet.{Sheet, isLogic};
+ghost use Rattle.types.specs.Code.{labelOf};
 ghost use Rattle.rows.specs.Table.{kindAt, delayIn, Falling};
 ghost use Rattle.cut.specs.Question.{codeFor};
 ghost use Rattle.relax.specs.Settle.{Settles, Pass};
@@ -23,13 +23,13 @@ use bound::Steps;
 use bound::arrival;
 use bound::level_in;
 use cut::code_for;
-use maps::Label;
-use maps::Level;
-use maps::Step;
 use rows::Graph;
 use rows::Header;
 use rows::delay_in;
 use rows::kind_in;
+use types::Label;
+use types::Level;
+use types::Step;
 
 // The levels that are left to ask about, and how far from the high end the next question is.
 pub struct Span {

@@ -5,8 +5,8 @@ use mathlib.Core.Bool.{Bool, true, false, cond, not}
 use mathlib.Core.List.{List, [], _∷_, _++_}
 use native.Mathlib.Omega.{arith}
 use lib.ListN.{length, take, drop}
-use Rattle.maps.specs.Code.{numberOf, placeOf}
-use Rattle.maps.specs.declared.Refusal.{Refusal}
+use Rattle.types.specs.Code.{numberOf, placeOf}
+use Rattle.types.specs.declared.Refusal.{Refusal}
 use Rattle.blif.specs.Lines.{lines, joined}
 use Rattle.blif.specs.Words.{Word, Line, withWords, wordLines, linesOf}
 use Rattle.blif.specs.Scan.{newlines, wordsAt, pastLine}

@@ -4,7 +4,7 @@ use mathlib.Core.Path.{_≡_}
 use mathlib.Core.Bool.{Bool, true, false}
 use mathlib.Core.List.{List}
 use lib.ListN.{length, take}
-use Rattle.maps.specs.Code.{numberOf, placeOf}
+use Rattle.types.specs.Code.{numberOf, placeOf}
 use Rattle.blif.specs.Lines.{lines}
 use Rattle.blif.specs.Words.{Line, withWords}
 use Rattle.blif.specs.Scan.{newlines, wordsAt}

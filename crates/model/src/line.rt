@@ -12,7 +12,6 @@ use definitions::Size;
 use definitions::keep_line;
 use grounds::Ground;
 use grounds::ground_of;
-use maps::Refusal;
 use names::Names;
 use scan::after_blanks;
 use scan::after_word;
@@ -22,6 +21,7 @@ use scan::line_number;
 use subset::Stage;
 use subset::stage_after;
 use subset::statement_at;
+use types::Refusal;
 
 // Where the next line stands, and how much is kept.
 pub struct State {

@@ -11,11 +11,11 @@ use crate::line::State;
 use crate::line::Turn;
 use crate::line::read_line;
 use definitions::Size;
-use maps::Refusal;
 use names::Names;
 use scan::after_line;
 use scan::line_count;
 use subset::Stage;
+use types::Refusal;
 
 // How much is kept of a model, or why there is none.
 pub enum Model {

@@ -1,8 +1,8 @@
 -- What the code's answers mean in document 01's terms.
 use Prim.Native.Nat.{ℕ}
 use Rattle.maps.specs.Number.{Got, got, refusal}
-use Rattle.maps.specs.Code.{numberOf, placeOf}
-use Rattle.maps.specs.declared.Refusal.{Refusal}
+use Rattle.types.specs.Code.{numberOf, placeOf}
+use Rattle.types.specs.declared.Refusal.{Refusal}
 use Rattle.number.specs.declared.Number.{Number}
 use Rattle.number.specs.declared.Number.the-variants.{Value, Refused}
 

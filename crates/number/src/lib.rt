@@ -5,10 +5,10 @@ ghost use Rattle.maps.specs.Number.{number, refusal};
 ghost use Rattle.maps.specs.Form.{inRange, operand};
 ghost use Rattle.number.specs.Code.{numberMeant};
 ghost use Rattle.ranges.specs.Ranges.{spanMeant, fieldRange};
-use maps::Refusal;
 use ranges::Field;
 use ranges::Span;
 use ranges::range_of;
+use types::Refusal;
 
 mod reader;
 

@@ -3,7 +3,7 @@
 ghost use mathlib.Core.Path.{_≡_};
 ghost use mathlib.Core.Bool.{true};
 ghost use Prim.Native.Nat.{ℕ, _<_, _≤_};
-ghost use Rattle.maps.specs.Code.{labelOf};
+ghost use Rattle.types.specs.Code.{labelOf};
 ghost use Rattle.bound.specs.Bound.{Summed};
 ghost use Rattle.sweep.specs.Sweep.{SomeFails};
 ghost use Rattle.pass.specs.Turn.{Underway, Onward, SettledNode, Turned, Passed};
@@ -15,15 +15,15 @@ use bound::place_label;
 use bound::step_of;
 use level::Cuts;
 use level::table_label;
-use maps::Kind;
-use maps::Label;
-use maps::Level;
-use maps::Step;
 use rows::Differences;
 use rows::Graph;
 use rows::Header;
 use rows::kind_in;
 use sweep::some_fails_below;
+use types::Kind;
+use types::Label;
+use types::Level;
+use types::Step;
 
 // What a pass comes to. It stops where it is not to be whole and a difference that it has broken leads back to a node that had its turn.
 pub enum Course {

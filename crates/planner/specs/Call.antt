@@ -5,8 +5,8 @@ use mathlib.Core.List.{List}
 use lib.ListN.{take}
 use Rattle.maps.specs.Sheet.{Sheet}
 use Rattle.maps.specs.Outcome.{Outcome, refusal, within, outcome}
-use Rattle.maps.specs.Code.{numberOf, placeOf}
 use Rattle.maps.specs.Sizes.{planMost}
+use Rattle.types.specs.Code.{numberOf, placeOf}
 use Rattle.rows.specs.declared.Header as R
 use Rattle.planner.specs.declared.call.Draft.{Draft}
 use Rattle.planner.specs.declared.call.Draft.the-variants as D

@@ -23,7 +23,6 @@ use bytes::hand_over;
 use cover::cover;
 use level::Cuts;
 use level::lowest_cutless;
-use maps::Refusal;
 use rows::Differences;
 use rows::Graph;
 use rows::Header;
@@ -32,6 +31,7 @@ use sheet::read_sheet;
 use timing::Timing;
 use timing::latency;
 use timing::time_labels;
+use types::Refusal;
 use writing::PlanBytes;
 use writing::write_plan;
 

@@ -7,11 +7,11 @@ ghost use Rattle.probe.specs.Probe.{Coded, Prepared, HasCut, padded, Cut
 use cut::ask;
 use cut::choose;
 use cut::code_for;
-use maps::Kind;
 use rows::Graph;
 use rows::kind_in;
 use sheet::Reading;
 use sheet::read_sheet;
+use types::Kind;
 
 // The codes of the nodes below v, and of v.
 fn set_codes(graph: &Graph, allowed: &[u8; 256], code: &mut [u8; 256], v: u32)

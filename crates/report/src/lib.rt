@@ -1,12 +1,12 @@
 // The listing of a sheet's plan, or the line of its refusal, on standard output.
 ghost use mathlib.Core.Path.{_≡_};
-ghost use Rattle.maps.specs.Code.{numberOf};
 ghost use Rattle.maps.specs.Outcome.{outcome, outcomeNumber};
+ghost use Rattle.types.specs.Code.{numberOf};
 use bytes::Outcome;
-use maps::Refusal;
 use number::Cursor;
 use number::Number;
 use number::number_at;
+use types::Refusal;
 
 // A number of the plan and where the next begins; past the end, 0 at the end.
 struct Item {

@@ -1,8 +1,8 @@
 -- What the code's structs mean in document 01's terms.
 use Rattle.maps.specs.Sheet.{Difference}
 use Rattle.maps.specs.Read.{Head, Header}
-use Rattle.maps.specs.Code.{kindMeant}
-use Rattle.maps.specs.declared.Node as N
+use Rattle.types.specs.Code.{kindMeant}
+use Rattle.types.specs.declared.Node as N
 use Rattle.rows.specs.declared.Difference as D
 use Rattle.rows.specs.declared.Header as H
 

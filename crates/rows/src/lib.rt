@@ -7,13 +7,13 @@ ghost use lib.ListN.{length};
 ghost use Rattle.maps.specs.Sheet.{latencyOf, clockToQOf};
 ghost use Rattle.maps.specs.WellFormed.{codeOf};
 ghost use Rattle.maps.specs.Read.{kindOf};
-ghost use Rattle.maps.specs.Code.{kindMeant};
+ghost use Rattle.types.specs.Code.{kindMeant};
 ghost use Rattle.rows.specs.Code.{headMeant, differenceMeant};
 ghost use Rattle.rows.specs.Table.{markOf, storeFrom, headRow, differenceRow, nodePlace, operandPlace, differencePlace, kindAt, markIn, delayIn, latencyIn, clockIn, countIn, operandIn, fromIn, toIn, plusIn, minusIn};
-use maps::Kind;
-use maps::Level;
-use maps::Node;
-use maps::Step;
+use types::Kind;
+use types::Level;
+use types::Node;
+use types::Step;
 
 // K, T, H, n, m.
 pub struct Header {

@@ -25,8 +25,6 @@ use bound::ready_step;
 use bound::set_label;
 use hold::floats;
 use level::Cuts;
-use maps::Label;
-use maps::Step;
 use pass::Course;
 use pass::pass;
 use rows::Differences;
@@ -38,6 +36,8 @@ use sweep::differences_hold;
 use sweep::freeze;
 use sweep::sweep;
 use sweep::thaw;
+use types::Label;
+use types::Step;
 
 // What a round comes to.
 pub enum Turn {

@@ -3,8 +3,8 @@ use mathlib.Core.Path.{_≡_}
 use Rattle.maps.specs.Number.{Got, got}
 use Rattle.maps.specs.Sheet.{Difference}
 use Rattle.maps.specs.Read.{Head, Header}
-use Rattle.maps.specs.Code.{numberOf, placeOf}
-use Rattle.maps.specs.declared.Refusal.{Refusal}
+use Rattle.types.specs.Code.{numberOf, placeOf}
+use Rattle.types.specs.declared.Refusal.{Refusal}
 use Rattle.number.specs.Code.{refusalMeant}
 use Rattle.number.specs.declared.Number.{Number}
 use Rattle.number.specs.declared.Number.the-variants.{Refused}

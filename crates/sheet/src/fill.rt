@@ -11,13 +11,13 @@ use crate::node::HeadRead;
 use crate::node::difference_at;
 use crate::node::head_at;
 use crate::node::refusal_of;
-use maps::Refusal;
 use number::Cursor;
 use number::Number;
 use number::operand_at;
 use rows::store_difference;
 use rows::store_head;
 use rows::store_operand;
+use types::Refusal;
 
 // How far reading into a table came.
 pub enum Progress {

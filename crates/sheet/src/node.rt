@@ -6,9 +6,6 @@ ghost use Rattle.maps.specs.Form.{read};
 ghost use Rattle.maps.specs.Read.{headForm, differenceForm, ahead, back};
 ghost use Rattle.sheet.specs.Code.{NotRead, headRead, differenceRead};
 ghost use Rattle.number.specs.declared.Number.the-variants as Number;
-use maps::Level;
-use maps::Node;
-use maps::Refusal;
 use number::Cursor;
 use number::Number;
 use number::field_at;
@@ -18,6 +15,9 @@ use ranges::range_of;
 use ranges::ranges_of;
 use rows::Difference;
 use rows::kind_of;
+use types::Level;
+use types::Node;
+use types::Refusal;
 
 // What reading a node's head gives.
 pub enum HeadRead {

@@ -12,7 +12,6 @@ use crate::fill::Progress;
 use crate::fill::read_differences;
 use crate::fill::read_nodes;
 use crate::node::refusal_of;
-use maps::Refusal;
 use number::Cursor;
 use number::Number;
 use number::field_at;
@@ -20,6 +19,7 @@ use ranges::Field;
 use rows::Differences;
 use rows::Graph;
 use rows::Header;
+use types::Refusal;
 
 // What reading the header gives.
 pub enum HeaderRead {

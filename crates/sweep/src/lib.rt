@@ -11,12 +11,12 @@ use bound::Steps;
 use bound::after_differences;
 use bound::place_label;
 use bound::step_of;
-use maps::Label;
 use rows::Differences;
 use rows::Graph;
 use rows::Header;
 use rows::delay_in;
 use rows::difference_in;
+use types::Label;
 
 // Whether difference i is heeded and does not hold.
 pub fn fails(differences: &Differences, first: &[u32; 256], steps: &Steps, i: u32) -> bool

@@ -14,12 +14,12 @@ use bound::Levels;
 use bound::Steps;
 use bound::ready_step;
 use level::Cuts;
-use maps::Step;
 use rows::Differences;
 use rows::Graph;
 use rows::Header;
 use rows::output_in;
 use schedule::least_labels;
+use types::Step;
 
 // What the horizon comes to: nothing is legal under any, nothing within this one but within a larger one, or the least labels are in time.
 pub enum Timing {

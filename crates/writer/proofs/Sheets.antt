@@ -7,16 +7,16 @@ use native.Mathlib.Nat.{mul-le-mul-right}
 use lib.ListN.{length, take, length-map, length-take}
 use Rattle.maps.specs.Lists.{below, concat}
 use Rattle.maps.specs.Limits.{topRange, sizeRange, countRange}
-use Rattle.maps.specs.Code.{numberOf, placeOf}
 use Rattle.maps.specs.Outcome.{refusal, within}
 use Rattle.maps.specs.Records.{Records}
 use Rattle.maps.specs.Write.{Entry, headerEntries, numbers, nodeNumbers, differenceNumbers, writing}
 use Rattle.maps.specs.Sizes.{headerBytesMost, nodeBytesMost, differenceBytesMost, sheetMost}
-use Rattle.maps.specs.declared.Refusal.{Refusal}
 use Rattle.maps.proofs.Over.{length-below}
 use Rattle.maps.proofs.Parse.{in-range}
 use Rattle.maps.proofs.Numbers.{each-below}
 use Rattle.maps.proofs.Written.{passes-writing, first-refused}
+use Rattle.types.specs.Code.{numberOf, placeOf}
+use Rattle.types.specs.declared.Refusal.{Refusal}
 use Rattle.records.specs.Rows.{nodePlace, differencePlace, rowsIn, nodeIn, differenceIn, nodeEntries, differenceEntries, recordsIn}
 use Rattle.fields.specs.Wrote.{start, Room, Wrote, passed, failed}
 use Rattle.fields.specs.declared.Position.{Position}

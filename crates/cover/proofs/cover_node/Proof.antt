@@ -2,8 +2,8 @@
 use mathlib.Core.Path.{sym, ap, _∙_}
 use borrow.Author.Tests.{not-true, not-false}
 use Rattle.maps.specs.Sheet.{isLogic, isBox}
-use Rattle.maps.specs.Code.{kindMeant}
-use Rattle.maps.specs.declared.Kind as K
+use Rattle.types.specs.Code.{kindMeant}
+use Rattle.types.specs.declared.Kind as K
 use Rattle.cover.proofs.CoverMarks.{rows-marked, rows-written}
 use Rattle.cover.proofs.CoverTurn.{turn-idle, turn-input, turn-box, turn-logic, kind-logic}
 use borrow.Author.Needs.{needs}

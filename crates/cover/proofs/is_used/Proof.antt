@@ -3,8 +3,8 @@ use mathlib.Core.Path.{sym, ap, _∙_}
 use lib.Dec.{eqb}
 use lib.ListN.{getD}
 use Rattle.maps.specs.Sheet.{isBox}
-use Rattle.maps.specs.Code.{kindMeant}
-use Rattle.maps.specs.declared.Kind as K
+use Rattle.types.specs.Code.{kindMeant}
+use Rattle.types.specs.declared.Kind as K
 use Rattle.rows.specs.Table.{kindAt}
 use Rattle.cover.proofs.CoverTurn.{test-output, test-box, test-mark}
 use borrow.Author.Needs.{needs}

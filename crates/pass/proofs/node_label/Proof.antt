@@ -1,7 +1,7 @@
 -- `node_label` meets its contract: one law for each kind.
 use mathlib.Core.Path.{ap, _∙_}
 use native.Mathlib.Omega.{arith}
-use Rattle.maps.specs.Code.{kindMeant}
+use Rattle.types.specs.Code.{kindMeant}
 use Rattle.bound.proofs.Safety.{node-in, graph-falls, soon-all, bounding}
 use Rattle.pass.proofs.TurnNode.{kept-beside, kind-is, placed, based-level, settles-base, settles-latest}
 use borrow.Author.Needs.{needs}

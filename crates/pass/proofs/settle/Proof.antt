@@ -1,5 +1,5 @@
 -- `settle` meets its contract.
-use Rattle.maps.specs.Code.{labelOf}
+use Rattle.types.specs.Code.{labelOf}
 use Rattle.bound.proofs.Safety.{node-in}
 use Rattle.pass.proofs.Turns.{turn-ends}
 use borrow.Author.Needs.{needs}

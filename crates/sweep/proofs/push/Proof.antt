@@ -2,8 +2,8 @@
 use Prim.Native.Nat.{ℕ}
 use mathlib.Core.Path.{subst, ap, _∙_}
 use native.Mathlib.Omega.{arith}
-use Rattle.maps.specs.Code.{labelOf}
 use Rattle.maps.specs.Label.{label}
+use Rattle.types.specs.Code.{labelOf}
 use Rattle.bound.specs.Bound.{Greatest, Into, pushOf}
 use Rattle.bound.proofs.Safety.{node-in, few-differences, summed-all}
 use Rattle.sweep.proofs.Pushing.{push-none, push-placed}

@@ -2,8 +2,8 @@
 use mathlib.Core.Path.{refl, ap}
 use native.Mathlib.Omega.{arith}
 use Rattle.maps.specs.Label.{Label}
-use Rattle.maps.specs.Code.{labelOf}
-use Rattle.maps.proofs.LabelLaws.{ready-now}
+use Rattle.types.specs.Code.{labelOf}
+use Rattle.types.proofs.LabelLaws.{ready-now}
 use Rattle.rows.specs.Table.{clockIn}
 use Rattle.bound.proofs.Arriving.{arrival-is}
 use borrow.Author.Needs.{needs}

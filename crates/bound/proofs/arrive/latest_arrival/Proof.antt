@@ -2,7 +2,7 @@
 use Prim.Native.Nat.{ℕ, _-_, _≤_}
 use mathlib.Core.Path.{_≡_, subst}
 use native.Mathlib.Omega.{arith}
-use Rattle.maps.specs.Code.{labelOf}
+use Rattle.types.specs.Code.{labelOf}
 use Rattle.rows.specs.Table.{countIn}
 use Rattle.bound.specs.Bound.{Latest}
 use Rattle.bound.proofs.Arriving.{latest-none, latest-more}

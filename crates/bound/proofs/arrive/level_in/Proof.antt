@@ -1,7 +1,7 @@
 -- `arrive::level_in` meets its contract.
 use mathlib.Core.Path.{ap, _∙_}
 use Rattle.maps.specs.Label.{leq}
-use Rattle.maps.specs.Code.{labelOf}
+use Rattle.types.specs.Code.{labelOf}
 use Rattle.bound.proofs.Arriving.{level-first, level-own, level-past}
 use borrow.Author.Needs.{needs}
 use Rattle.bound.proofs.arrive.level_in.Statement.{statement}

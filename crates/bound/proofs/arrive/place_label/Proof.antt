@@ -1,7 +1,7 @@
 -- `arrive::place_label` meets its contract.
 use Prim.Native.Nat.{ℕ, _+_, _≤_, _<_, min}
 use mathlib.Core.Path.{refl, subst, ap, _∙_}
-use Rattle.maps.specs.Code.{labelOf}
+use Rattle.types.specs.Code.{labelOf}
 use borrow.Author.Needs.{needs}
 use Rattle.bound.proofs.arrive.place_label.Statement.{statement}
 use Rattle.bound.proofs.arrive.place_label.Tie as tie

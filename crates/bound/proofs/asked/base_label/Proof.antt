@@ -1,7 +1,7 @@
 -- `asked::base_label` meets its contract.
 use mathlib.Core.Path.{ap, _∙_}
 use Rattle.maps.specs.Label.{Label, label, later}
-use Rattle.maps.specs.Code.{labelOf}
+use Rattle.types.specs.Code.{labelOf}
 use Rattle.bound.specs.Lookup.{labelIn}
 use Rattle.bound.proofs.Safety.{delay-is}
 use borrow.Author.Needs.{needs}

@@ -1,8 +1,8 @@
 -- `cuts::has_cut` meets its contract.
 use mathlib.Core.Path.{refl, sym, ap, _∙_}
 use Rattle.maps.specs.Sheet.{isLogic}
-use Rattle.maps.specs.Code.{kindMeant}
-use Rattle.maps.specs.declared.Kind as K
+use Rattle.types.specs.Code.{kindMeant}
+use Rattle.types.specs.declared.Kind as K
 use Rattle.level.proofs.CutTests.{fit-other, fit-tried}
 use borrow.Author.Needs.{needs}
 use Rattle.level.proofs.cuts.has_cut.Statement.{statement}

@@ -1,5 +1,5 @@
 -- `level::code_of` meets its contract.
-use Rattle.maps.specs.Code.{labelOf, kindMeant}
+use Rattle.types.specs.Code.{labelOf, kindMeant}
 use Rattle.rows.specs.Table.{kindAt}
 use Rattle.bound.specs.Lookup.{arrivalIn}
 use Rattle.level.proofs.LevelCodes.{code-from}

@@ -3,7 +3,7 @@ use Prim.Native.Nat.{_-_, _≤_}
 use mathlib.Core.Path.{_≡_, refl, _∙_}
 use native.Mathlib.Omega.{arith}
 use lib.ListN.{length, length-set, getD-replicate}
-use Rattle.maps.specs.Code.{labelOf}
+use Rattle.types.specs.Code.{labelOf}
 use Rattle.level.proofs.LevelCodes.{Coded, code-is, coded-none, coded-more, coded-all}
 use borrow.Author.Needs.{needs}
 use Rattle.level.proofs.level.codes.Statement.{statement}

@@ -1,7 +1,7 @@
 -- `level::narrow` meets its contract.
 use native.Mathlib.Omega.{arith}
 use borrow.Author.Tests.{not-true, not-false}
-use Rattle.maps.specs.Code.{labelOf}
+use Rattle.types.specs.Code.{labelOf}
 use Rattle.rows.proofs.Tables.{falling}
 use Rattle.level.proofs.LevelCodes.{placed-in}
 use Rattle.level.proofs.LevelSpan.{placed-top, placed-few, kept-leaves, tried-at, tried-true, narrowed-up, narrowed-down}

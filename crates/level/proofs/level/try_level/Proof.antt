@@ -1,5 +1,5 @@
 -- `level::try_level` meets its contract.
-use Rattle.maps.specs.Code.{labelOf}
+use Rattle.types.specs.Code.{labelOf}
 use Rattle.level.proofs.LevelCodes.{inTime, asked-by, tried-by}
 use borrow.Author.Needs.{needs}
 use Rattle.level.proofs.level.try_level.Statement.{statement}

@@ -12,7 +12,7 @@ use Rattle.blif.specs.Names.{defined}
 use Rattle.blif.proofs.Walking.{words-some}
 use Rattle.subset.specs.Meant.{stageMeant, statementMeant}
 use Rattle.grounds.specs.declared.Ground.the-variants as Is
-use Rattle.maps.specs.declared.Refusal.the-variants as R
+use Rattle.types.specs.declared.Refusal.the-variants as R
 use Rattle.definitions.proofs.Keeping.{kept-same}
 use Rattle.model.proofs.Turning.{turn-next, turn-refused, found-fault, good-lawful}
 use Rattle.model.proofs.line.read_words.Statement.{statement}

@@ -1,8 +1,8 @@
 -- `probe::prepare` meets its contract: each way out says why nothing is asked, and the last that all is set.
 use mathlib.Core.Path.{sym, ap, _∙_}
 use Rattle.maps.specs.Sheet.{isLogic}
-use Rattle.maps.specs.Code.{kindMeant}
-use Rattle.maps.specs.declared.Kind as K
+use Rattle.types.specs.Code.{kindMeant}
+use Rattle.types.specs.declared.Kind as K
 use Rattle.sheet.proofs.After.{was-read, was-refused}
 use Rattle.probe.proofs.Answers.{not-a-sheet, no-node, no-logic, small, prepared}
 use borrow.Author.Needs.{needs}

@@ -1,9 +1,9 @@
--- `maps::Label::next_step` meets its contract.
+-- `types::Label::next_step` meets its contract.
 use mathlib.Core.Path.{refl}
 use borrow.Author.Needs.{needs}
 use Rattle.maps.proofs.Fix.{label-path}
-use Rattle.maps.proofs.Label.next_step.Statement.{statement}
-use Rattle.maps.proofs.Label.next_step.Tie as tie
+use Rattle.types.proofs.Label.next_step.Statement.{statement}
+use Rattle.types.proofs.Label.next_step.Tie as tie
 
 returns : tie.Need-returns
 returns c = label-path (c .after .ensures) refl

@@ -1,9 +1,9 @@
--- `maps::Label::later` meets its contract.
+-- `types::Label::later` meets its contract.
 use borrow.Author.Needs.{needs}
-use Rattle.maps.specs.Code.{labelOf}
-use Rattle.maps.proofs.LabelLaws.{later-taken, later-left}
-use Rattle.maps.proofs.Label.later.Statement.{statement}
-use Rattle.maps.proofs.Label.later.Tie as tie
+use Rattle.types.specs.Code.{labelOf}
+use Rattle.types.proofs.LabelLaws.{later-taken, later-left}
+use Rattle.types.proofs.Label.later.Statement.{statement}
+use Rattle.types.proofs.Label.later.Tie as tie
 
 returns : tie.Need-returns
 returns c =
