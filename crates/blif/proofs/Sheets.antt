@@ -174,6 +174,10 @@ well-sheet c h M s = record {
       let m : v < length (M .definitions) = rw (nodes-count c M) at l in
       rw (node-at (nodeOf (delay c) M) (M .definitions) v m) (well-node c h M s v m);
   differences = tt;
+  period = record { least = omega arith; most = omega arith };
+  windowCount = record { least = omega arith; most = omega arith };
+  windows = tt;
+  rising = tt;
 }
 
 pub imported-well : (text : List ℕ) (c : Caller) (S : Sheet) → importSheet text c ≡ imported S → WellFormed S
@@ -222,6 +226,8 @@ sheet-of-text text c h s m =
           let k : i < length (M .definitions) = rw (nodes-count c M) at l in
           rw (node-at (nodeOf (delay c) M) (M .definitions) i k) (defined-node (delay c) M s i k);
       differences = refl;
+      period = refl;
+      windows = refl;
       answered = λ o k.
           let p = has-place (namesOf (M .definitions)) (o .name) (output-defined M m o k) in
           let n : length (namesOf (M .definitions)) ≡ length (M .definitions) = length-map (M .definitions) (λ d. d .name) in

@@ -39,9 +39,9 @@ holds (imports text o) = isOutcome (importing (bytesOf text) usual 2000) o
 holds (holding text o) = isOutcome (importing (framed (bytesOf text)) usual 2000) o
 holds (given text c room o) = isOutcome (importing text c room) o
 
--- the sheet of n nodes for the usual caller
+-- the sheet of n nodes for the usual caller; it ends with P = 1 and no entries
 abbrev sheet : (n : ℕ) → (nodes : List ℕ) → Outcome
-sheet n nodes = accepted ((4 ∷ 8 ∷ 9 ∷ n ∷ 0 ∷ []) ++ nodes)
+sheet n nodes = accepted ((4 ∷ 8 ∷ 9 ∷ n ∷ 0 ∷ []) ++ nodes ++ (1 ∷ 0 ∷ []))
 
 -- an input, a table, a latch, each with q = 0; o is 1 if it is put out
 abbrev input : (o : ℕ) → List ℕ
@@ -71,7 +71,7 @@ single = framed (bytesOf ".inputs a\n.outputs y\n.names a y\n1 1")
 
 -- its sheet for K, T, H and d, where all are below 128
 abbrev singleSheet : (k t h d : ℕ) → Outcome
-singleSheet k t h d = accepted ((k ∷ t ∷ h ∷ 2 ∷ 0 ∷ []) ++ input 0 ++ (1 ∷ 1 ∷ d ∷ 0 ∷ 0 ∷ 1 ∷ 0 ∷ []))
+singleSheet k t h d = accepted ((k ∷ t ∷ h ∷ 2 ∷ 0 ∷ []) ++ input 0 ++ (1 ∷ 1 ∷ d ∷ 0 ∷ 0 ∷ 1 ∷ 0 ∷ []) ++ (1 ∷ 0 ∷ []))
 
 unfoldable pub cases : List Case
 cases =
@@ -198,7 +198,7 @@ cases =
     ∷ holding ".inputs a b\n.names a a a a b b y" (sheet 3 (input 0 ++ input 0 ++ table 0 6 (0 ∷ 0 ∷ 0 ∷ 0 ∷ 1 ∷ 1 ∷ [])))
     ∷ holding ".inputs a\n.names a a a a a a a y" (refusal 11 3)
     -- 256 nodes: the line that would define one more
-    ∷ given (framed (bytesOf ".inputs" ++ many 256)) usual 2000 (accepted ((4 ∷ 8 ∷ 9 ∷ 128 ∷ 2 ∷ 0 ∷ []) ++ concat (replicate 256 (input 0))))
+    ∷ given (framed (bytesOf ".inputs" ++ many 256)) usual 2000 (accepted ((4 ∷ 8 ∷ 9 ∷ 128 ∷ 2 ∷ 0 ∷ []) ++ concat (replicate 256 (input 0)) ++ (1 ∷ 0 ∷ [])))
     ∷ given (framed (bytesOf ".inputs" ++ many 257)) usual 2000 (refusal 11 2)
     ∷ given (framed (bytesOf ".inputs" ++ many 256 ++ bytesOf "\n.names k")) usual 2000 (refusal 11 3)
     -- "on one line 9, 10, 11 in that order"
@@ -223,7 +223,7 @@ cases =
     ∷ given single (caller 4 64 9 1000 500) 2000 (singleSheet 4 64 9 2)
     ∷ given single (caller 4 65 9 1000 500) 2000 (refusal 11 0)
     ∷ given single (caller 4 8 0 1000 500) 2000 (singleSheet 4 8 0 2)
-    ∷ given (bytesOf ".model m\n.inputs a\n.end") (caller 4 8 65535 1 1) 2000 (accepted ((4 ∷ 8 ∷ 255 ∷ 255 ∷ 3 ∷ 1 ∷ 0 ∷ []) ++ input 0))
+    ∷ given (bytesOf ".model m\n.inputs a\n.end") (caller 4 8 65535 1 1) 2000 (accepted ((4 ∷ 8 ∷ 255 ∷ 255 ∷ 3 ∷ 1 ∷ 0 ∷ []) ++ input 0 ++ (1 ∷ 0 ∷ [])))
     ∷ given single (caller 4 8 65536 1000 500) 2000 (refusal 11 0)
     ∷ given single (caller 4 8 9 0 500) 2000 (refusal 11 0)
     ∷ given single (caller 4 8 9 1000 0) 2000 (refusal 11 0)
@@ -239,8 +239,8 @@ cases =
     ∷ given (replicate 65536 32) usual 2000 (refusal 9 2)
     ∷ given [] (caller 1 8 9 1000 500) 0 (refusal 11 0)
     -- "and then 8": one byte short, the exact room, and no room for what is refused
-    ∷ given single usual 17 (refusal 8 18)
-    ∷ given single usual 18 (singleSheet 4 8 9 2)
+    ∷ given single usual 19 (refusal 8 20)
+    ∷ given single usual 20 (singleSheet 4 8 9 2)
     ∷ given (framed (bytesOf ".inputs a\n.outputs y")) usual 0 (refusal 10 3)
     ∷ given (bytesOf ".model m\n.end") usual 0 (refusal 11 2)
     ∷ []

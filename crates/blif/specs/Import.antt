@@ -30,7 +30,8 @@ nodeOf d M x = record {
   operands = map (idOf (namesOf (M .definitions))) (x .reads);
 }
 
--- "a sheet whose nodes are the model's, outputs marked, without differences"
+-- "a sheet whose nodes are the model's, outputs marked, without differences"; of the period and the count of entries "The importer writes 1 and 0"
+-- (document 02, U8)
 abbrev pub sheetOf : Caller → Model → Sheet
 sheetOf c M = record {
   leaves = c .leaves;
@@ -38,6 +39,8 @@ sheetOf c M = record {
   horizon = c .horizon;
   nodes = map (nodeOf (delay c) M) (M .definitions);
   differences = [];
+  period = 1;
+  windows = [];
 }
 
 -- the names put out that nothing defines, in the text's order

@@ -79,6 +79,8 @@ pub record SheetOfText (text : List ℕ) (c : Caller) (S : Sheet) : Type 0 where
   pub size : length (S .nodes) ≡ length (definitionsOf text)
   pub nodes : (i : ℕ) → i < length (S .nodes) → DefinedNode (definitionsOf text) (outputNamesOf text) (delay c) i (node S i)
   pub differences : S .differences ≡ []
+  pub period : S .period ≡ 1
+  pub windows : S .windows ≡ []
   -- every name put out is defined
   pub answered : (o : OutputName) → List·Memᴰ o (outputNamesOf text) → (i : ℕ) × (i < length (S .nodes)) × (getD (definitionsOf text) i noDefinition .name ≡ o .name)
   -- a name is defined once

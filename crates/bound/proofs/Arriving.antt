@@ -5,14 +5,17 @@ use mathlib.Core.Bool.{Bool, true, false, cond}
 use mathlib.Core.List.{List}
 use mathlib.Core.Logic.{_⊎_, inl, inr}
 use native.Mathlib.Omega.{arith}
-use lib.Dec.{leb}
+use lib.Dec.{eqb, leb}
+use borrow.Author.Tests.{eq-eqb, ne-eqb}
 use Rattle.maps.specs.Label.{Label, label, leq, later, plus, ready, _≼_}
+use Rattle.maps.specs.Sheet.{Window}
+use Rattle.maps.specs.Window.{nextOpen, openLabel}
 use Rattle.maps.proofs.Order.{≼-refl, ≼-trans, leq-true, ≼-leq, leq-decides, later-is, later-left, later-right, ready-step}
 use Rattle.maps.proofs.Over.{last-or}
 use Rattle.maps.proofs.Fix.{label-path}
 use Rattle.types.specs.Code.{fitted}
 use Rattle.rows.specs.Table.{latencyIn, clockIn, delayIn, operandIn}
-use Rattle.bound.specs.Lookup.{labelIn, arrivalIn, Soon}
+use Rattle.bound.specs.Lookup.{labelIn, arrivalIn, Soon, stepLimit}
 use Rattle.bound.specs.Bound.{Carrying, Latest}
 
 -- a label whose step fits is as it was
@@ -34,6 +37,23 @@ arrival-is graph steps levels top delay u lat clock own mid r p f k q e soon =
     let s = ready-step (latencyIn graph u) (clockIn graph u) (labelIn steps levels u) in
     let a : mid ≡ R = q ∙ rw (f, k, p) (fitted-same R (omega (arith, s))) in
     e ∙ ap (λ (x : Label). fitted (plus top x delay)) a ∙ fitted-same (plus top R delay) (omega (arith, plus-step top delay R, s))
+
+-- what arrives fits
+pub arrival-small : (graph steps levels : List ℕ) (top delay u : ℕ) → Soon graph steps u → arrivalIn graph steps levels top delay u .step ≤ stepLimit
+unfolding arrivalIn
+arrival-small graph steps levels top delay u soon =
+    omega (
+      arith,
+      plus-step top delay (ready (latencyIn graph u) (clockIn graph u) (labelIn steps levels u)),
+      ready-step (latencyIn graph u) (clockIn graph u) (labelIn steps levels u),
+    )
+
+-- a label in an open step, and one in a closed step
+pub open-kept : (p : ℕ) (w : Window) (d n : ℕ) (a : Label) → n ≡ nextOpen p w (a .step) → n ≡ a .step → a ≡ openLabel p w d a
+open-kept p w d n a e h = sym (rw (eq-eqb (nextOpen p w (a .step)) (a .step) (sym e ∙ h)))
+
+pub open-moved : (p : ℕ) (w : Window) (d n : ℕ) (a : Label) → n ≡ nextOpen p w (a .step) → (n ≡ a .step → ⊥) → label n d ≡ openLabel p w d a
+open-moved p w d n a e f = ap (λ (s : ℕ). label s d) e ∙ sym (rw (ne-eqb (nextOpen p w (a .step)) (a .step) (λ q. f (e ∙ q))))
 
 -- the least level of step s by which a has come
 module _ (a : Label) (s top : ℕ) where

@@ -14,7 +14,7 @@ use Rattle.rows.specs.declared.Header as R
 use Rattle.relax.specs.Guard.{NodeOk, DiffsInto}
 use Rattle.relax.specs.Settle.{ForcedStep, Asks}
 use Rattle.relax.proofs.Closed.{Closed, well-closed, inside}
-use Rattle.bound.specs.Lookup.{labelIn, Heeded}
+use Rattle.bound.specs.Lookup.{labelIn, Heeded, stepLimit}
 use Rattle.bound.specs.Bound.{Greatest, readyStep, Into, pushOf}
 use Rattle.bound.specs.Going.{Given, Timed}
 use Rattle.bound.proofs.Safety.{graph-falls, soon-all, summed-all}
@@ -74,7 +74,7 @@ module _ (S : Sheet) (graph differences : List ℕ) (limits : R.Header) (given :
         ap (λ (u : ℕ). Q u .step) e,
       )
 
-  own-small : getD steps v 0 + latencyIn graph v < 4294967295
+  own-small : getD steps v 0 + latencyIn graph v < stepLimit
   own-small = soon-all given timed v (omega (arith, given .nodes))
 
   module _ (first : List ℕ) (s r : ℕ) (diffs : Greatest s (Into differences first (limits .differences) v) (pushOf differences steps) r) where
@@ -83,9 +83,9 @@ module _ (S : Sheet) (graph differences : List ℕ) (limits : R.Header) (given :
     push-forced e =
         record { asked = λ Q up ok into. diffs .least (Q v .step) (omega (arith, up v l .steps)) (λ i h. push-under Q up into i (h .0) (h .1)) }
 
-    push-small : s ≤ 4294967294 → r < 4294967295
+    push-small : s ≤ 4294967039 → r < stepLimit
     push-small h =
-        let b : r ≤ 4294967294 = diffs .least 4294967294 h (λ i k. omega (arith, summed-all given timed i (k .0) .ahead)) in omega arith
+        let b : r ≤ 4294967039 = diffs .least 4294967039 h (λ i k. omega (arith, summed-all given timed i (k .0) .ahead)) in omega arith
 
     -- r is late enough for each difference of the sheet into v, where v is heeded
     pub push-heeds : Heeded first v → (d : Difference) → List·Memᴰ d (S .differences) → d .to ≡ v → L (d .from) .step + d .plus ≤ r + d .minus
@@ -129,10 +129,10 @@ module _ (S : Sheet) (graph differences : List ℕ) (limits : R.Header) (given :
               let low : u < v = closed .ordered v u (mem-in (node S v .operands) m) in
               omega (arith, operand-is j k, up u (omega arith) .steps, ready-step (latency S u) (clockToQ S u) (Q u), All-at (λ u. readyOf S Q u .step ≤ Q v .step) (node S v .operands) (ok .after) m)
 
-      pub asks-small : r < 4294967295
-      asks-small = push-small (ops .least 4294967294 (omega (arith, own-small)) operand)
+      pub asks-small : r < stepLimit
+      asks-small = push-small (ops .least 4294967039 (omega (arith, own-small)) operand)
         where
-          operand : (j : ℕ) → j < countIn graph v → readyStep graph steps v j ≤ 4294967294
+          operand : (j : ℕ) → j < countIn graph v → readyStep graph steps v j ≤ 4294967039
           operand j h =
               let u = graph-falls given .falls v j id h in
               omega (arith, soon-all given timed (operandIn graph v j) (omega (arith, given .nodes)))

@@ -8,7 +8,7 @@ use lib.ListN.{getD, set}
 use Rattle.maps.specs.Label.{Label, label, _≼_}
 use Rattle.rows.specs.Table.{delayIn, operandIn, latencyIn, fromIn, toIn, plusIn, minusIn}
 use Rattle.rows.specs.Cells.{Ends}
-use Rattle.bound.specs.Lookup.{arrivalIn, Heeded}
+use Rattle.bound.specs.Lookup.{arrivalIn, Heeded, stepLimit}
 
 -- r is the least level of step s by which each of count labels has come; top + 1 where no level up to top is
 pub record Carrying (top s count : ℕ) (a : ℕ → Label) (r : ℕ) : Type 0 where
@@ -44,8 +44,8 @@ pub record Latest (graph steps levels : List ℕ) (v top count : ℕ) (a r : Lab
 pub record Summed (differences steps : List ℕ) (i : ℕ) : Type 0 where
   pub from : fromIn differences i < 256
   pub to : toIn differences i < 256
-  pub ahead : getD steps (fromIn differences i) 0 + plusIn differences i < 4294967295
-  pub behind : getD steps (toIn differences i) 0 + minusIn differences i < 4294967295
+  pub ahead : getD steps (fromIn differences i) 0 + plusIn differences i < stepLimit
+  pub behind : getD steps (toIn differences i) 0 + minusIn differences i < stepLimit
 
 -- difference i holds
 abbrev pub HoldsAt : (differences steps : List ℕ) → ℕ → Type 0

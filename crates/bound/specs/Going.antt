@@ -12,7 +12,7 @@ use Rattle.maps.specs.WellFormed.{WellFormed}
 use Rattle.rows.specs.Table.{Tabled, Listed}
 use Rattle.rows.specs.declared.Header as R
 use Rattle.relax.specs.Settle.{Asks}
-use Rattle.bound.specs.Lookup.{Row, Heeding}
+use Rattle.bound.specs.Lookup.{Row, Heeding, stepLimit}
 
 -- the tables and the limits are those of the sheet, but for the horizon: labels are sought within that of the limits, whatever the sheet's own
 pub record Given (S : Sheet) (graph differences : List ℕ) (limits : R.Header) : Type 0 where
@@ -24,6 +24,8 @@ pub record Given (S : Sheet) (graph differences : List ℕ) (limits : R.Header) 
   pub near : limits .horizon ≤ readyMost
   pub nodes : limits .nodes ≡ size S
   pub count : limits .differences ≡ length (S .differences)
+  pub period : limits .period ≡ S .period
+  pub windows : limits .windows ≡ length (S .windows)
 
 -- a fitting cut of v is kept
 pub record Keeps (S : Sheet) (kept : List ℕ) (v : ℕ) : Type 0 where
@@ -60,5 +62,5 @@ pub record Going (S : Sheet) (graph differences : List ℕ) (limits : R.Header) 
 pub record Based (S : Sheet) (L : ℕ → Label) (v : ℕ) (a : Label) : Type 0 where
   pub step : ℕ
   pub asks : Asks S L v step
-  pub fits : step < 4294967295
+  pub fits : step < stepLimit
   pub base : a ≡ later (L v) (label step (node S v .delay))

@@ -22,9 +22,13 @@ labelsIn n steps levels = map (labelIn steps levels) (below n)
 unfoldable pub arrivalIn : (graph steps levels : List ℕ) (top delay u : ℕ) → Label
 arrivalIn graph steps levels top delay u = plus top (ready (latencyIn graph u) (clockIn graph u) (labelIn steps levels u)) delay
 
+-- steps of the code's lie below this, so that a shift, or a period and what lies before a window in it, can be added in 32 bits
+abbrev pub stepLimit : ℕ
+stepLimit = 4294967040
+
 -- the step at which u is ready is a number of the code's
 abbrev pub Soon : (graph steps : List ℕ) → ℕ → Type 0
-Soon graph steps u = getD steps u 0 + latencyIn graph u < 4294967295
+Soon graph steps u = getD steps u 0 + latencyIn graph u < stepLimit
 
 -- the row of v in a table of cuts: eight numbers, the count first, then the leaves
 abbrev pub cutStride : ℕ

@@ -1,10 +1,11 @@
 // Labels in the arrays, and the labels at which nodes arrive at others.
 ghost use mathlib.Core.Path.{_≡_};
-ghost use Prim.Native.Nat.{ℕ, _+_, _<_};
+ghost use Prim.Native.Nat.{ℕ, _+_, _≤_, _<_};
 ghost use lib.ListN.{getD, set, replicate};
 ghost use Rattle.maps.specs.Label.{earliest};
+ghost use Rattle.maps.specs.Window.{between, openLabel};
 ghost use Rattle.types.specs.Code.{labelOf};
-ghost use Rattle.rows.specs.Table.{latencyIn, countIn, Falling};
+ghost use Rattle.rows.specs.Table.{delayIn, latencyIn, countIn, openIn, closing, Falling};
 ghost use Rattle.bound.specs.Lookup.{labelIn, arrivalIn, Soon};
 ghost use Rattle.bound.specs.Bound.{Carrying, Latest, LabelPlaced};
 use rows::Graph;
@@ -13,6 +14,7 @@ use rows::count_in;
 use rows::delay_in;
 use rows::latency_in;
 use rows::operand_in;
+use rows::window_in;
 use types::Label;
 use types::Level;
 use types::Step;
@@ -123,6 +125,22 @@ pub fn arrival(
     let q = clock_to_q_in(graph, u);
     let ready = own.ready(lat, q);
     ready.plus(delay, top)
+}
+
+// The label a of node v, or level d of the next open step where that of a is closed.
+pub fn open_label(graph: &Graph, v: u32, period: u32, a: Label) -> Label
+    requires { ⌜ v < 256 ⌝ }
+    requires { ⌜ (0 < period) × (a .step .0 + period + openIn (now graph) v ≤ 4294967295) ⌝ }
+    ensures { λ r. ⌜ labelOf r ≡ openLabel period (between 0 (openIn (now (graph .entry)) v) (closing (now (graph .entry)) period v)) (delayIn (now (graph .entry)) v) (labelOf a) ⌝ }
+{
+    let window = window_in(graph, v, period);
+    let own = a.step;
+    let step = own.next_open(period, window.from, window.to);
+    if step.0 == own.0 {
+        return a;
+    }
+    let delay = delay_in(graph, v);
+    Label::at(step, delay)
 }
 
 // The least level of step s by which a has come, or top + 1.

@@ -7,7 +7,7 @@ ghost use Rattle.maps.specs.Sheet.{Sheet};
 ghost use Rattle.types.specs.Code.{labelOf};
 ghost use Rattle.rows.specs.Table.{countIn, toIn, Falling};
 ghost use Rattle.relax.specs.Settle.{Asks};
-ghost use Rattle.bound.specs.Lookup.{labelIn, Linked, Heeding, Soon};
+ghost use Rattle.bound.specs.Lookup.{labelIn, Linked, Heeding, Soon, stepLimit};
 ghost use Rattle.bound.specs.Bound.{Greatest, readyStep, Into, pushOf, Summed};
 ghost use Rattle.bound.specs.Going.{Bounding, Based};
 use crate::arrive::Levels;
@@ -126,7 +126,7 @@ pub fn step_asked(
 ) -> Step
     requires { ⌜ ((S : Sheet) × (levels : List ℕ) × Bounding S (now graph) (now differences) limits (now first) (now next) (now steps) levels v) ⌝ }
     ensures { λ r. ⌜ ((S : Sheet) (levels : List ℕ) → Bounding S (now (graph .entry)) (now (differences .entry)) limits (now (first .entry)) (now (next .entry)) (now (steps .entry)) levels v
-        → Asks S (labelIn (now (steps .entry)) levels) v (r .0) × (r .0 < 4294967295)) ⌝ }
+        → Asks S (labelIn (now (steps .entry)) levels) v (r .0) × (r .0 < stepLimit)) ⌝ }
     ensures { λ r. ⌜ ((i : ℕ) → Into (now (differences .entry)) (now (first .entry)) (limits .differences) v i → pushOf (now (differences .entry)) (now (steps .entry)) i ≤ r .0) ⌝ }
 {
     let own = step_of(steps, v);

@@ -9,6 +9,7 @@ pub use arrive::clear_labels;
 pub use arrive::label_of;
 pub use arrive::latest_arrival;
 pub use arrive::level_in;
+pub use arrive::open_label;
 pub use arrive::place_label;
 pub use arrive::ready_step;
 pub use arrive::set_label;

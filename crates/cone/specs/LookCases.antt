@@ -19,6 +19,8 @@ hall =
       horizon = 4;
       nodes = node input [] ∷ node input [] ∷ node input [] ∷ node logic (0 ∷ 1 ∷ []) ∷ node logic (3 ∷ 2 ∷ []) ∷ node logic (4 ∷ 3 ∷ []) ∷ [];
       differences = [];
+      period = 1;
+      windows = [];
     }
 
 -- all logic nodes inside: 4, then its own operands, 3 with 0 and 1, and 2; then 3, which is met before

@@ -1,2 +1,3 @@
 pub mod Omitting
+pub mod Unwindowed
 pub mod Rewriting

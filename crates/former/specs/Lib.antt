@@ -1,2 +1,3 @@
+pub mod Plain
 pub mod Former
 pub mod Rewritten

@@ -1,1 +1,2 @@
-// Document 01's form of the sheet, before a node had its q, apart from the code: a sheet rewritten with q = 0 in every node keeps its outcome.
+// Earlier forms of the sheet, apart from the code: document 01's, before a node had its q, and that of document 02 before U8, without a period and
+// entries. A sheet rewritten with q = 0 in every node, and with P = 1 and no entries, keeps its outcome.

@@ -16,7 +16,7 @@ use Rattle.maps.proofs.Member.{zeros-at}
 use Rattle.rows.specs.Table.{operandIn, latencyIn}
 use Rattle.rows.specs.Cells.{zeros}
 use Rattle.rows.proofs.Cells.{zeros-mark}
-use Rattle.hold.specs.Mark.{HeldIn, zero-in, operand-in, target-in, Floats, heldIn, OnlyHeld, HeldZero, Near, Holdable, NodeHeld, Marked, Swept, AllMarked}
+use Rattle.hold.specs.Mark.{HeldIn, ground-in, operand-in, target-in, Floats, heldIn, OnlyHeld, HeldGround, Near, Holdable, NodeHeld, Marked, Swept, AllMarked}
 
 -- ---- tests
 
@@ -33,18 +33,18 @@ pub not-both : {b : Bool} → b ≡ true → b ≡ false → ⊥
 not-both p q = let z : _≡_ {A = ℕ} 0 1 = cc in omega arith
 
 -- operand j of v, read as u with its ready step, holds v or does not
-pub not-marked : (graph steps held : List ℕ) (v j : ℕ) {u : ℕ} → u ≡ operandIn graph v j → heldIn held u ≡ false → Near graph steps held v j → ⊥
-not-marked graph steps held v j e h n = not-both (n .holds) (subst (λ (x : ℕ). heldIn held x ≡ false) e h)
+pub not-marked : (graph steps held : List ℕ) (p v j : ℕ) {u : ℕ} → u ≡ operandIn graph v j → heldIn held u ≡ false → Near graph steps held p v j → ⊥
+not-marked graph steps held p v j e h n = not-both (n .holds) (subst (λ (x : ℕ). heldIn held x ≡ false) e h)
 
-module _ (graph steps held : List ℕ) (v j : ℕ) {u ready own : ℕ} (e : u ≡ operandIn graph v j) (r : ready ≡ getD steps u 0 + latencyIn graph u)
+module _ (graph steps held : List ℕ) (p v j : ℕ) {u ready own : ℕ} (e : u ≡ operandIn graph v j) (r : ready ≡ getD steps u 0 + latencyIn graph u)
     (o : own ≡ getD steps v 0) where
   there : ready ≡ getD steps (operandIn graph v j) 0 + latencyIn graph (operandIn graph v j)
   there = r ∙ ap (λ (x : ℕ). getD steps x 0 + latencyIn graph x) e
 
-  pub near-by : heldIn held u ≡ true → own ≤ ready + 1 → Near graph steps held v j
+  pub near-by : heldIn held u ≡ true → own ≤ ready + p → Near graph steps held p v j
   near-by h c = let t = there in record { holds = subst (λ (x : ℕ). heldIn held x ≡ true) e h; close = omega arith }
 
-  pub not-close : ready + 1 < own → Near graph steps held v j → ⊥
+  pub not-close : ready + p < own → Near graph steps held p v j → ⊥
   not-close l n = let t = there in omega (arith, n .close)
 
 -- ---- one mark
@@ -62,34 +62,34 @@ held-still l v u h e = go (ℕ-discrete u v)
     go (yes p) = ap (heldIn (set l v 1)) p ∙ held-here l v h
     go (no f) = held-there l v u f ∙ e
 
--- ---- the nodes of step 0
+-- ---- the nodes of a step below the shift
 
-pub zero-none : (steps : List ℕ) → HeldZero steps (replicate 256 0) 0
-zero-none steps =
+pub ground-none : (steps : List ℕ) (p : ℕ) → HeldGround steps (replicate 256 0) p 0
+ground-none steps p =
     record {
       wide = length-replicate {A = ℕ} 256 0;
-      zero-held = below-none _;
+      ground = below-none _;
       only = λ v k. absurd (not-both k (held-no (replicate 256 0) v (zeros-at 256 v)));
     }
 
-pub zero-mark : {steps held : List ℕ} {v : ℕ} → HeldZero steps held v → v < 256 → getD steps v 0 ≡ 0 → HeldZero steps (set held v 1) (v + 1)
-zero-mark {steps} {held} {v} g l e =
+pub ground-mark : {steps held : List ℕ} {p v : ℕ} → HeldGround steps held p v → v < 256 → getD steps v 0 < p → HeldGround steps (set held v 1) p (v + 1)
+ground-mark {steps} {held} {p} {v} g l e =
     let h : v < length held = omega (arith, g .wide) in
     record {
       wide = length-set held v 1 ∙ g .wide;
-      zero-held = below-more _ v (λ u k z. held-still held v u h (g .zero-held u k z)) (λ z. held-here held v h);
+      ground = below-more _ v (λ u k z. held-still held v u h (g .ground u k z)) (λ z. held-here held v h);
       only = λ u k. go u k (ℕ-discrete u v);
     }
   where
-    go : (u : ℕ) → heldIn (set held v 1) u ≡ true → Dec (u ≡ v) → (u < v + 1) × (getD steps u 0 ≡ 0)
-    go u k (yes p) = (omega arith, ap (λ (w : ℕ). getD steps w 0) p ∙ e)
+    go : (u : ℕ) → heldIn (set held v 1) u ≡ true → Dec (u ≡ v) → (u < v + 1) × (getD steps u 0 < p)
+    go u k (yes q) = (omega arith, omega (arith, ap (λ (w : ℕ). getD steps w 0) q))
     go u k (no f) = let o = g .only u (sym (held-there held v u f) ∙ k) in (omega (arith, o .0), o .1)
 
-pub zero-skip : {steps held : List ℕ} {v : ℕ} → HeldZero steps held v → (getD steps v 0 ≡ 0 → ⊥) → HeldZero steps held (v + 1)
-zero-skip {steps} {held} {v} g f =
+pub ground-skip : {steps held : List ℕ} {p v : ℕ} → HeldGround steps held p v → p ≤ getD steps v 0 → HeldGround steps held p (v + 1)
+ground-skip {steps} {held} {p} {v} g f =
     record {
       wide = g .wide;
-      zero-held = below-more _ v (g .zero-held) (λ z. absurd (f z));
+      ground = below-more _ v (g .ground) (λ z. absurd (omega arith));
       only = λ u k. let o = g .only u k in (omega (arith, o .0), o .1);
     }
 
@@ -108,37 +108,37 @@ marked-wide : (a b : List ℕ) (g : Bool) → Marked a b g → length b ≡ leng
 marked-wide a b true p = p .0 .wide
 marked-wide a b false p = ap length p
 
-module _ {graph differences steps : List ℕ} {n m : ℕ} where
+module _ {graph differences steps : List ℕ} {p n m : ℕ} where
   -- what a marked node holds is held
-  held-next : (held : List ℕ) (v : ℕ) → OnlyHeld graph differences steps held n m → v < n → Holdable graph differences steps held m v
-      → HeldIn graph differences steps n m v
+  held-next : (held : List ℕ) (v : ℕ) → OnlyHeld graph differences steps held p n m → v < n → Holdable graph differences steps held p m v
+      → HeldIn graph differences steps p n m v
   held-next held v only l (inl w) = operand-in v (w .0) l (w .1) (only _ (w .2 .holds)) (w .2 .close)
   held-next held v only l (inr w) =
       let t = w .1 in
-      let p = t .into in
-      subst (HeldIn graph differences steps n m) p (target-in (w .0) (t .within) (omega arith) (only _ (t .ties .holds)) (t .ties .tight))
+      let q = t .into in
+      subst (HeldIn graph differences steps p n m) q (target-in (w .0) (t .within) (omega arith) (only _ (t .ties .holds)) (t .ties .tight))
 
   -- one mark more, of a node that is held
-  only-mark : (held : List ℕ) (v : ℕ) → OnlyHeld graph differences steps held n m → HeldIn graph differences steps n m v
-      → OnlyHeld graph differences steps (set held v 1) n m
+  only-mark : (held : List ℕ) (v : ℕ) → OnlyHeld graph differences steps held p n m → HeldIn graph differences steps p n m v
+      → OnlyHeld graph differences steps (set held v 1) p n m
   only-mark held v only h u k = go (ℕ-discrete u v)
     where
-      go : Dec (u ≡ v) → HeldIn graph differences steps n m u
-      go (yes p) = subst (HeldIn graph differences steps n m) (sym p) h
+      go : Dec (u ≡ v) → HeldIn graph differences steps p n m u
+      go (yes q) = subst (HeldIn graph differences steps p n m) (sym q) h
       go (no f) = only u (sym (held-there held v u f) ∙ k)
 
-  pub swept-none : {a : List ℕ} {low high : ℕ} → high ≤ low → Swept graph differences steps a a n m low high false
+  pub swept-none : {a : List ℕ} {low high : ℕ} → high ≤ low → Swept graph differences steps a a p n m low high false
   swept-none l = record { marked = refl; closed = λ z v b t. absurd (omega arith); only = λ h. h }
 
-  module _ {a b : List ℕ} {low high : ℕ} {g : Bool} (s : Swept graph differences steps a b n m low high g) where
+  module _ {a b : List ℕ} {low high : ℕ} {g : Bool} (s : Swept graph differences steps a b p n m low high g) where
     pub swept-wide : length b ≡ length a
     swept-wide = marked-wide a b g (s .marked)
 
     -- the turn of v: the nodes from low up to high had theirs, and now those from low' up to high' have
-    pub swept-yes : {c : List ℕ} {low' high' : ℕ} (v : ℕ) → v < n → v < length b → NodeHeld graph differences steps b c m v true
-        → Swept graph differences steps a c n m low' high' true
+    pub swept-yes : {c : List ℕ} {low' high' : ℕ} (v : ℕ) → v < n → v < length b → NodeHeld graph differences steps b c p m v true
+        → Swept graph differences steps a c p n m low' high' true
     swept-yes {c} {low'} {high'} v l wide t =
-        subst (λ (x : List ℕ). Swept graph differences steps a x n m low' high' true) (sym (t .2))
+        subst (λ (x : List ℕ). Swept graph differences steps a x p n m low' high' true) (sym (t .2))
         (record {
           marked = marked-then a b (set b v 1) g (s .marked) (marked-new b v wide (t .0));
           closed = λ z. absurd (not-both refl z);
@@ -146,58 +146,58 @@ module _ {graph differences steps : List ℕ} {n m : ℕ} where
         })
 
     pub swept-no : {c : List ℕ} {low' high' : ℕ} (v : ℕ) → ((u : ℕ) → low' ≤ u → u < high' → (u ≡ v → ⊥) → (low ≤ u) × (u < high))
-        → NodeHeld graph differences steps b c m v false → Swept graph differences steps a c n m low' high' g
+        → NodeHeld graph differences steps b c p m v false → Swept graph differences steps a c p n m low' high' g
     swept-no {c} {low'} {high'} v rest t =
-        subst (λ (x : List ℕ). Swept graph differences steps a x n m low' high' g) (sym (t .1))
+        subst (λ (x : List ℕ). Swept graph differences steps a x p n m low' high' g) (sym (t .1))
         (record { marked = s .marked; closed = λ z u f h. at z u f h (ℕ-discrete u v); only = s .only })
       where
-        at : g ≡ false → (u : ℕ) → low' ≤ u → u < high' → Dec (u ≡ v) → Holdable graph differences steps b m u → heldIn b u ≡ true
-        at z u f h (yes p) = subst (λ (x : ℕ). Holdable graph differences steps b m x → heldIn b x ≡ true) (sym p) (t .0)
+        at : g ≡ false → (u : ℕ) → low' ≤ u → u < high' → Dec (u ≡ v) → Holdable graph differences steps b p m u → heldIn b u ≡ true
+        at z u f h (yes q) = subst (λ (x : ℕ). Holdable graph differences steps b p m x → heldIn b x ≡ true) (sym q) (t .0)
         at z u f h (no q) = let w = rest u f h q in s .closed z u (w .0) (w .1)
 
 -- ---- all marks
 
--- between two sweeps: the nodes of step 0 are marked, and only what is held is
-pub record Marks (graph differences steps held : List ℕ) (n m : ℕ) : Type 0 where
+-- between two sweeps: the nodes of a step below the shift are marked, and only what is held is
+pub record Marks (graph differences steps held : List ℕ) (p n m : ℕ) : Type 0 where
   pub wide : length held ≡ 256
-  pub zero-held : (v : ℕ) → v < n → getD steps v 0 ≡ 0 → heldIn held v ≡ true
-  pub only : OnlyHeld graph differences steps held n m
+  pub ground : (v : ℕ) → v < n → getD steps v 0 < p → heldIn held v ≡ true
+  pub only : OnlyHeld graph differences steps held p n m
 
-module _ {graph differences steps : List ℕ} {n m : ℕ} where
-  pub marks-first : {held : List ℕ} → HeldZero steps held n → Marks graph differences steps held n m
+module _ {graph differences steps : List ℕ} {p n m : ℕ} where
+  pub marks-first : {held : List ℕ} → HeldGround steps held p n → Marks graph differences steps held p n m
   marks-first z =
-      record { wide = z .wide; zero-held = z .zero-held; only = λ v k. let o = z .only v k in zero-in v (o .0) (o .1) }
+      record { wide = z .wide; ground = z .ground; only = λ v k. let o = z .only v k in ground-in v (o .0) (o .1) }
 
   -- a sweep that marks something
-  pub marks-again : {held more : List ℕ} → Marks graph differences steps held n m → Swept graph differences steps held more n m 0 n true
-      → Marks graph differences steps more n m × (zeros more < zeros held)
+  pub marks-again : {held more : List ℕ} → Marks graph differences steps held p n m → Swept graph differences steps held more p n m 0 n true
+      → Marks graph differences steps more p n m × (zeros more < zeros held)
   marks-again k w =
       let g = w .marked in (
         record {
           wide = g .0 .wide ∙ k .wide;
-          zero-held = λ v l z. g .0 .still v (k .zero-held v l z);
+          ground = λ v l z. g .0 .still v (k .ground v l z);
           only = w .only (k .only);
         },
         g .1,
       )
 
   -- marks that are closed under holding have every held node
-  marks-all : {held : List ℕ} → Marks graph differences steps held n m
-      → ((v : ℕ) → v < n → Holdable graph differences steps held m v → heldIn held v ≡ true)
-      → (v : ℕ) → HeldIn graph differences steps n m v → heldIn held v ≡ true
-  marks-all k t v (zero-in u l e) = k .zero-held v l e
+  marks-all : {held : List ℕ} → Marks graph differences steps held p n m
+      → ((v : ℕ) → v < n → Holdable graph differences steps held p m v → heldIn held v ≡ true)
+      → (v : ℕ) → HeldIn graph differences steps p n m v → heldIn held v ≡ true
+  marks-all k t v (ground-in u l e) = k .ground v l e
   marks-all k t v (operand-in u j l h o c) = t v l (inl (j, h, record { holds = marks-all k t (operandIn graph v j) o; close = c }))
   marks-all k t v (target-in i l b o c) =
       t v b (inr (i, record { within = l; into = refl; ties = record { holds = marks-all k t _ o; tight = c } }))
 
   -- a sweep that marks nothing: the marks are exactly the held nodes
-  pub marks-exact : {held more : List ℕ} → Marks graph differences steps held n m → Swept graph differences steps held more n m 0 n false
-      → (b : Bool) → AllMarked more n b → Floats graph differences steps n m (not b)
+  pub marks-exact : {held more : List ℕ} → Marks graph differences steps held p n m → Swept graph differences steps held more p n m 0 n false
+      → (b : Bool) → AllMarked more n b → Floats graph differences steps p n m (not b)
   marks-exact {held} {more} k w b h = go b h
     where
-      same : Marks graph differences steps more n m
-      same = subst (λ (l : List ℕ). Marks graph differences steps l n m) (sym (w .marked)) k
+      same : Marks graph differences steps more p n m
+      same = subst (λ (l : List ℕ). Marks graph differences steps l p n m) (sym (w .marked)) k
 
-      go : (b : Bool) → AllMarked more n b → Floats graph differences steps n m (not b)
+      go : (b : Bool) → AllMarked more n b → Floats graph differences steps p n m (not b)
       go true all = λ v l. same .only v (all v l)
       go false f = (f .0, f .1, λ o. not-both (marks-all same (λ v l. w .closed refl v (omega arith) l) (f .0) o) (f .2))

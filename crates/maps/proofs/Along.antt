@@ -1,17 +1,17 @@
 -- The numbers of records go along the sheet's form: what the form asks in turn is what each of them is held to.
 use Prim.Native.Nat.{ℕ, suc, _+_, _*_, _/_, _%_}
 use mathlib.Core.Path.{_≡_, refl, sym, subst, ap}
-use mathlib.Core.Bool.{true}
+use mathlib.Core.Bool.{Bool, true}
 use mathlib.Core.List.{List, [], _∷_, _++_, map, map-id}
 use native.Mathlib.Omega.{arith}
 use lib.IntN.{ℤ, pos, negsuc}
 use lib.ListN.{length}
 use Rattle.maps.specs.Lists.{All, concat}
-use Rattle.maps.specs.Sheet.{Sheet, Node}
-use Rattle.maps.specs.Form.{under, passes, Form, done, ask, _>>=_, asked, each, times, Leads}
-use Rattle.maps.specs.Read.{nodeOf, headForm, nodeForm, difference, differenceForm, Header, headerForm, sheetOf, sheetForm}
+use Rattle.maps.specs.Sheet.{Sheet, Node, Difference, Window, boxIn}
+use Rattle.maps.specs.Form.{under, passes, Form, done, ask, _>>=_, asked, each, times, chain, Leads}
+use Rattle.maps.specs.Read.{nodeOf, headForm, nodeForm, difference, differenceForm, windowForm, nextId, cycleOf, cycleForm, Header, headerForm, sheetOf, sheetForm}
 use Rattle.maps.specs.Records.{NodeRecord, DifferenceRecord, Records, headMeant, nodeMeant, plusOf, minusOf, differenceMeant, sheetMeant}
-use Rattle.maps.specs.Write.{Entry, entry, headerNumbers, headNumbers, nodeNumbers, codeOfWeight, differenceNumbers, eachNumbers, numbers, valuesOf, Passes}
+use Rattle.maps.specs.Write.{Entry, entry, headerNumbers, headNumbers, nodeNumbers, codeOfWeight, differenceNumbers, windowNumbers, chainNumbers, cycleNumbers, boxesOf, eachNumbers, numbers, valuesOf, Passes}
 
 -- the form asks of each number in turn what the entry says, and ends in a
 abbrev pub Along : {A : Type 0} → Form A → List Entry → A → Type 0
@@ -39,6 +39,13 @@ along-each F N val h i [] = refl
 along-each F N val h i (g ∷ gs) =
     along-bind (F i) _ (N i g) _ (val g) _ (h i g)
     (along-map (each F (i + 1) (length gs)) (λ rest. val g ∷ rest) _ _ (along-each F N val h (i + 1) gs))
+
+pub along-chain : {A : Type 0} (next : A → ℕ) (F : ℕ → Form A) (N : ℕ → A → List Entry) → ((j : ℕ) (a : A) → Along (F j) (N j a) a)
+    → (i : ℕ) (xs : List A) → Along (chain next F i (length xs)) (chainNumbers next N i xs) xs
+along-chain next F N h i [] = refl
+along-chain next F N h i (x ∷ xs) =
+    along-bind (F i) _ (N i x) _ x _ (h i x)
+    (along-map (chain next F (next x) (length xs)) (λ rest. x ∷ rest) _ _ (along-chain next F N h (next x) xs))
 
 -- if all numbers pass, they lead to the end
 pub along-end : {A : Type 0} (f : Form A) (es : List Entry) (a : A) → Along f es a → All Passes es → Leads f (valuesOf es) (done a)
@@ -78,7 +85,7 @@ along-operands own us =
     let h : Along (each F 0 (length us)) (eachNumbers N 0 us) (map (λ u. u) us) = along-each F N (λ u. u) (λ j u. (refl, refl)) 0 us in
     rw (each-same (entry (under own)) 0 us) (subst (λ xs. Along (each F 0 (length us)) (eachNumbers N 0 us) xs) (map-id us) h)
 
-along-node : (top own : ℕ) (v : NodeRecord) → Along (nodeForm top own) (nodeNumbers top own v) (nodeMeant v)
+pub along-node : (top own : ℕ) (v : NodeRecord) → Along (nodeForm top own) (nodeNumbers top own v) (nodeMeant v)
 unfolding nodeForm
 along-node top own v =
     along-bind (headForm top) (λ h. _>>=_ (times (h .count) (asked (under own))) (λ ids. done (nodeOf h ids))) (headNumbers top v)
@@ -106,6 +113,17 @@ along-differences n ds =
     rw (each-rows (differenceNumbers n) 0 ds)
     (along-each (λ i. differenceForm n) (λ i. differenceNumbers n) differenceMeant (λ j. along-difference n) 0 ds)
 
+along-window : (n : ℕ) (isBox : ℕ → Bool) (p low : ℕ) (w : Window) → Along (windowForm n isBox p low) (windowNumbers n isBox p low w) w
+unfolding windowForm
+along-window n isBox p low w = (refl, (refl, (refl, refl)))
+
+pub along-cycle : (n : ℕ) (isBox : ℕ → Bool) (p : ℕ) (ws : List Window) → Along (cycleForm n isBox) (cycleNumbers n isBox p ws) (cycleOf p ws)
+unfolding cycleForm
+along-cycle n isBox p ws = (
+  refl,
+  (refl, along-map (chain nextId (windowForm n isBox p) 0 (length ws)) (cycleOf p) _ _ (along-chain nextId (windowForm n isBox p) (windowNumbers n isBox p) (along-window n isBox p) 0 ws)),
+)
+
 abbrev pub headerMeant : Records → Header
 headerMeant R = record { leaves = R .leaves; top = R .top; horizon = R .horizon; nodes = length (R .nodes); differences = length (R .differences) }
 
@@ -113,9 +131,12 @@ pub along-header : (R : Records) → Along headerForm (headerNumbers R) (headerM
 unfolding headerForm
 along-header R = (refl, (refl, (refl, (refl, (refl, refl)))))
 
--- what the form asks after the header and after the nodes
+-- what the form asks after the header, after the nodes and after the differences
+abbrev pub afterDifferences : Header → List Node → List Difference → Form Sheet
+afterDifferences h vs ds = _>>=_ (cycleForm (h .nodes) (boxIn vs)) (λ c. done (sheetOf h vs ds c))
+
 abbrev pub afterNodes : Header → List Node → Form Sheet
-afterNodes h vs = _>>=_ (times (h .differences) (differenceForm (h .nodes))) (λ ds. done (sheetOf h vs ds))
+afterNodes h vs = _>>=_ (times (h .differences) (differenceForm (h .nodes))) (afterDifferences h vs)
 
 abbrev pub afterHeader : Header → Form Sheet
 afterHeader h = _>>=_ (each (nodeForm (h .top)) 0 (h .nodes)) (afterNodes h)
@@ -127,8 +148,13 @@ along-sheet R =
     let n = length (R .nodes) in
     let vs = eachNumbers (nodeNumbers (R .top)) 0 (R .nodes) in
     let ds = concat (map (differenceNumbers n) (R .differences)) in
-    along-bind headerForm afterHeader (headerNumbers R) (vs ++ ds) (headerMeant R) (sheetMeant R) (along-header R)
-    (along-bind (each (nodeForm (R .top)) 0 n) (afterNodes (headerMeant R)) vs ds (map nodeMeant (R .nodes)) (sheetMeant R)
+    let ws = cycleNumbers n (boxesOf R) (R .period) (R .windows) in
+    let vm = map nodeMeant (R .nodes) in
+    let dm = map differenceMeant (R .differences) in
+    along-bind headerForm afterHeader (headerNumbers R) (vs ++ (ds ++ ws)) (headerMeant R) (sheetMeant R) (along-header R)
+    (along-bind (each (nodeForm (R .top)) 0 n) (afterNodes (headerMeant R)) vs (ds ++ ws) vm (sheetMeant R)
     (along-each (nodeForm (R .top)) (nodeNumbers (R .top)) nodeMeant (along-node (R .top)) 0 (R .nodes))
-    (along-map (times (length (R .differences)) (differenceForm n)) (sheetOf (headerMeant R) (map nodeMeant (R .nodes))) ds
-    (map differenceMeant (R .differences)) (along-differences n (R .differences))))
+    (along-bind (times (length (R .differences)) (differenceForm n)) (afterDifferences (headerMeant R) vm) ds ws dm (sheetMeant R)
+    (along-differences n (R .differences))
+    (along-map (cycleForm n (boxesOf R)) (sheetOf (headerMeant R) vm dm) ws (cycleOf (R .period) (R .windows))
+    (along-cycle n (boxesOf R) (R .period) (R .windows)))))

@@ -1,7 +1,7 @@
 -- Records whose numbers pass are those of their sheet, and a well-formed sheet is that of its records, whose numbers pass.
 use Prim.Native.Nat.{ℕ, zero, suc, _+_, _*_, _≤_, _<_}
 use mathlib.Core.Path.{_≡_, refl, subst, ap}
-use mathlib.Core.Bool.{Bool, true, false, cond}
+use mathlib.Core.Bool.{Bool, true, false, cond, _&&_}
 use mathlib.Core.List.{List, [], _∷_, _++_, map}
 use mathlib.Core.Logic.{_⊎_, inl, inr, _↔_}
 use native.Mathlib.Omega.{arith}
@@ -11,13 +11,13 @@ use lib.IntN.{ℤ, pos, negsuc}
 use lib.ListN.{length, getD, length-map}
 use borrow.Author.Tests.{le-leb, lt-ltb}
 use Rattle.maps.specs.Lists.{All, concat}
-use Rattle.maps.specs.Sheet.{Sheet, Kind, input, logic, box, Node, Difference, noNode, latencyOf, clockToQOf}
-use Rattle.maps.specs.Limits.{Range, kindRange, markRange, idRange, weightMost, weightRange, rangesOf}
-use Rattle.maps.specs.Form.{among, under, passes}
-use Rattle.maps.specs.Read.{kindOf}
-use Rattle.maps.specs.WellFormed.{Within, codeOf, WellNode, WellDifference, WellFormed}
+use Rattle.maps.specs.Sheet.{Sheet, Kind, input, logic, box, Node, Difference, noNode, Window, boxIn, latencyOf, clockToQOf}
+use Rattle.maps.specs.Limits.{Range, kindRange, markRange, idRange, weightMost, weightRange, rangesOf, periodRange, boxRange, fromRange, toRange}
+use Rattle.maps.specs.Form.{among, boxed, under, passes}
+use Rattle.maps.specs.Read.{kindOf, nextId}
+use Rattle.maps.specs.WellFormed.{Within, codeOf, WellNode, WellDifference, WellEntry, Rising, WellFormed}
 use Rattle.maps.specs.Records.{NodeRecord, DifferenceRecord, Records, nodeMeant, plusOf, minusOf, differenceMeant, sheetMeant, nodeRecord, weightOf, differenceRecord, recordsOf}
-use Rattle.maps.specs.Write.{entry, headerNumbers, nodeNumbers, codeOfWeight, differenceNumbers, eachNumbers, numbers, Passes}
+use Rattle.maps.specs.Write.{entry, headerNumbers, nodeNumbers, codeOfWeight, differenceNumbers, windowNumbers, chainNumbers, cycleNumbers, boxesOf, eachNumbers, numbers, Passes}
 use Rattle.maps.proofs.Member.{All-join, All-split}
 use Rattle.maps.proofs.Parse.{coded, latency-back, clock-back, in-range}
 use Rattle.maps.proofs.Shown.{mark-back}
@@ -53,7 +53,8 @@ unfolding numbers
 records-again R p =
     let vs = eachNumbers (nodeNumbers (R .top)) 0 (R .nodes) in
     let ds = concat (map (differenceNumbers (length (R .nodes))) (R .differences)) in
-    let v = All-split Passes vs ds (All-split Passes (headerNumbers R) (vs ++ ds) p .1) in
+    let ws = cycleNumbers (length (R .nodes)) (boxesOf R) (R .period) (R .windows) in
+    let v = All-split Passes vs (ds ++ ws) (All-split Passes (headerNumbers R) (vs ++ (ds ++ ws)) p .1) in
     rw (nodes-again (R .top) 0 (R .nodes) (v .0), differences-again (R .differences))
 
 -- Sheet, records, sheet: of plus and minus one is 0.
@@ -150,10 +151,28 @@ differences-pass n (d ∷ ds) w = (
   ),
 )
 
+-- an entry of a box, and the entries
+box-passes : (r : Range) (isBox : ℕ → Bool) (x : ℕ) → Within r x → isBox x ≡ true → passes (boxed r isBox) x ≡ true
+box-passes r isBox x h b = rw (range-passes r x h, b)
+
+windows-pass : (n : ℕ) (isBox : ℕ → Bool) (p low : ℕ) (ws : List Window) → All (WellEntry n isBox p) ws → Rising low ws
+    → All Passes (chainNumbers nextId (windowNumbers n isBox p) low ws)
+windows-pass n isBox p low [] w r = tt
+windows-pass n isBox p low (x ∷ ws) w r = (
+  box-passes (boxRange n low) isBox (x .id) (record { least = r .0; most = omega (arith, w .0 .inside) }) (w .0 .boxed),
+  (
+    range-passes (fromRange p) (x .from) (record { least = omega arith; most = omega (arith, w .0 .well .some, w .0 .well .within) }),
+    (
+      range-passes (toRange p (x .from)) (x .to) (record { least = omega (arith, w .0 .well .some); most = w .0 .well .within }),
+      windows-pass n isBox p (nextId x) ws (w .1) (r .1),
+    ),
+  ),
+)
+
 pub well-passes : (S : Sheet) → WellFormed S → All Passes (numbers (recordsOf S))
 unfolding numbers
 well-passes S w =
-    rw (length-map (S .nodes) nodeRecord, length-map (S .differences) differenceRecord) (
+    rw (length-map (S .nodes) nodeRecord, length-map (S .differences) differenceRecord, nodes-meant (S .nodes)) (
       range-passes _ _ (w .leaves),
       (
         range-passes _ _ (w .top),
@@ -165,7 +184,11 @@ well-passes S w =
               range-passes _ _ (w .count),
               All-join Passes (eachNumbers (nodeNumbers (S .top)) 0 (map nodeRecord (S .nodes))) _
                   (nodes-pass (S .top) 0 (S .nodes) (λ v l. rw (zero-add v) (w .nodes v l)))
-                  (differences-pass (length (S .nodes)) (S .differences) (w .differences)),
+                  (All-join Passes (concat (map (differenceNumbers (length (S .nodes))) (map differenceRecord (S .differences)))) _
+                  (differences-pass (length (S .nodes)) (S .differences) (w .differences)) (
+                    range-passes _ _ (w .period),
+                    (range-passes _ _ (w .windowCount), windows-pass (length (S .nodes)) (boxIn (S .nodes)) (S .period) 0 (S .windows) (w .windows) (w .rising)),
+                  )),
             ),
           ),
         ),

@@ -10,7 +10,7 @@ use lib.ListN.{length, drop, length-drop, length-append}
 use borrow.Author.Tests.{ltb-true, ltb-false, lt-ltb, le-ltb, eqb-true}
 use Rattle.maps.specs.Sheet.{Sheet}
 use Rattle.maps.specs.Number.{Bytes, Got, got, refusal, above, groups, numberUpTo, number, width, values, encoded}
-use Rattle.maps.specs.Form.{among, under, Rule, ground, Form, done, ask, read, Leads}
+use Rattle.maps.specs.Form.{among, boxed, under, Rule, ground, Form, done, ask, read, Leads}
 use Rattle.maps.specs.Read.{sheetForm, sheet, refused, whole, parse}
 use Rattle.maps.specs.Records.{Records, sheetMeant}
 use Rattle.maps.specs.Write.{First, numbers, valuesOf, spelled}
@@ -177,6 +177,7 @@ refuses-number (value ns r g x rest l d w f) = go r
   where
     go : (r : Rule) → (1 ≤ ground r) × (ground r ≤ 5)
     go (among q) = (omega arith, omega arith)
+    go (boxed q isBox) = (omega arith, omega arith)
     go (under own) = (omega arith, omega arith)
 refuses-number (trailing ns S b rest l d) = (omega arith, omega arith)
 

@@ -7,15 +7,15 @@ use native.Mathlib.Omega.{arith}
 use lib.Dec.{eqb}
 use lib.ListN.{length, length-map}
 use borrow.Author.Tests.{eqb-true, eqb-false}
-use Rattle.maps.specs.Sheet.{Sheet, Node, Difference, latencyOf, clockToQOf}
-use Rattle.maps.specs.Limits.{leavesRange, topRange, horizonRange, sizeRange, countRange, kindRange, markRange, idRange, weightRange, rangesOf}
-use Rattle.maps.specs.Form.{Rule, among, under, passes, Form, done, ask, _>>=_, asked, each, times, Leads}
-use Rattle.maps.specs.Read.{kindOf, Head, nodeOf, headForm, nodeForm, ahead, back, differenceForm, Header, headerForm, sheetOf, sheetForm}
+use Rattle.maps.specs.Sheet.{Sheet, Node, Difference, Window, boxIn, latencyOf, clockToQOf}
+use Rattle.maps.specs.Limits.{leavesRange, topRange, horizonRange, sizeRange, countRange, kindRange, markRange, idRange, weightRange, rangesOf, periodRange, windowsRange, boxRange, fromRange, toRange}
+use Rattle.maps.specs.Form.{Rule, among, boxed, under, passes, Form, done, ask, _>>=_, asked, each, times, chain, Leads}
+use Rattle.maps.specs.Read.{kindOf, Head, nodeOf, headForm, nodeForm, ahead, back, differenceForm, windowForm, nextId, Cycle, cycleOf, cycleForm, Header, headerForm, sheetOf, sheetForm}
 use Rattle.maps.specs.WellFormed.{codeOf}
-use Rattle.maps.specs.Records.{nodeRecord, weightOf, differenceRecord, recordsOf}
-use Rattle.maps.specs.Write.{Entry, entry, nodeNumbers, codeOfWeight, differenceNumbers, eachNumbers, numbers, valuesOf}
+use Rattle.maps.specs.Records.{nodeMeant, nodeRecord, weightOf, differenceRecord, recordsOf}
+use Rattle.maps.specs.Write.{Entry, entry, nodeNumbers, codeOfWeight, differenceNumbers, windowNumbers, chainNumbers, cycleNumbers, eachNumbers, numbers, valuesOf}
 use Rattle.maps.proofs.Parse.{coded, latency-back, clock-back, in-range}
-use Rattle.maps.proofs.Along.{each-rows, afterNodes, afterHeader}
+use Rattle.maps.proofs.Along.{each-rows, afterDifferences, afterNodes, afterHeader}
 
 -- whatever the form ends in has the property with the numbers that led there
 record Shows {A : Type 0} (P : A → List ℕ → Type 0) (f : Form A) : Type 0 where
@@ -95,6 +95,23 @@ shows-each N f h i (suc n) =
     bind (each f (i + 1) n) (λ rest. done (a ∷ rest)) (shows-each N f h (i + 1) n) λ rest ms q.
     shows-done (a ∷ rest) (record { counted = ap suc (q .counted); listed = rw (append-nil ms, e, q .listed) })
 
+-- n in a chain, whose numbers are each element's own
+abbrev rowList : {A : Type 0} → (A → List ℕ) → List A → List ℕ
+rowList N [] = []
+rowList N (a ∷ rest) = N a ++ rowList N rest
+
+record Rows {A : Type 0} (N : A → List ℕ) (n : ℕ) (xs : List A) (ns : List ℕ) : Type 0 where
+  counted : length xs ≡ n
+  listed : ns ≡ rowList N xs
+
+shows-chain : {A : Type 0} (N : A → List ℕ) (next : A → ℕ) (f : ℕ → Form A) → ((i : ℕ) → Shows (λ a ns. ns ≡ N a) (f i)) → (i n : ℕ)
+    → Shows (Rows N n) (chain next f i n)
+shows-chain N next f h i zero = shows-done [] (record { counted = refl; listed = refl })
+shows-chain N next f h i (suc n) =
+    bind (f i) (λ a. _>>=_ (chain next f (next a) n) (λ rest. done (a ∷ rest))) (h i) λ a ns e.
+    bind (chain next f (next a) n) (λ rest. done (a ∷ rest)) (shows-chain N next f h (next a) n) λ rest ms q.
+    shows-done (a ∷ rest) (record { counted = ap suc (q .counted); listed = rw (append-nil ms, e, q .listed) })
+
 -- a mark is 0 or 1
 pub mark-back : (x : ℕ) → x ≤ 1 → cond (eqb x 1) 1 0 ≡ x
 mark-back zero l = refl
@@ -158,6 +175,33 @@ shows-difference n =
     bind (asked (among weightRange)) _ (shows-asked _) λ c nc hc.
     shows-done _ (rw (hu .alone, hv .alone, hc .alone, code-back c))
 
+abbrev windowList : Window → List ℕ
+windowList w = w .id ∷ w .from ∷ w .to ∷ []
+
+shows-window : (n : ℕ) (isBox : ℕ → Bool) (p low : ℕ) → Shows (λ w ns. ns ≡ windowList w) (windowForm n isBox p low)
+unfolding windowForm
+shows-window n isBox p low =
+    bind (asked (boxed (boxRange n low) isBox)) _ (shows-asked _) λ id ni hi.
+    bind (asked (among (fromRange p))) _ (shows-asked _) λ from nf hf.
+    bind (asked (among (toRange p from))) _ (shows-asked _) λ to nt ht.
+    shows-done _ (rw (hi .alone, hf .alone, ht .alone))
+
+abbrev cycleList : Cycle → List ℕ
+cycleList c = c .period ∷ length (c .windows) ∷ rowList windowList (c .windows)
+
+shows-cycle : (n : ℕ) (isBox : ℕ → Bool) → Shows (λ c ns. ns ≡ cycleList c) (cycleForm n isBox)
+unfolding cycleForm
+shows-cycle n isBox =
+    bind (asked (among periodRange)) _ (shows-asked _) λ p np hp.
+    bind (asked (among (windowsRange n))) _ (shows-asked _) λ count nc hc.
+    bind (chain nextId (windowForm n isBox p) 0 count) (λ ws. done (cycleOf p ws)) (shows-chain windowList nextId (windowForm n isBox p) (shows-window n isBox p) 0 count) λ ws nw hw.
+    shows-done (cycleOf p ws) (rw (hp .alone, hc .alone, hw .listed, append-nil (rowList windowList ws), hw .counted))
+
+values-windows : (n : ℕ) (isBox : ℕ → Bool) (p low : ℕ) (ws : List Window)
+    → valuesOf (chainNumbers nextId (windowNumbers n isBox p) low ws) ≡ rowList windowList ws
+values-windows n isBox p low [] = refl
+values-windows n isBox p low (w ∷ ws) = ap (λ t. w .id ∷ w .from ∷ w .to ∷ t) (values-windows n isBox p (nextId w) ws)
+
 abbrev headerList : Header → List ℕ
 headerList h = h .leaves ∷ h .top ∷ h .horizon ∷ h .nodes ∷ h .differences ∷ []
 
@@ -177,11 +221,14 @@ values-each N k i [] = refl
 values-each N k i (x ∷ xs) = map-append (λ (e : Entry). e .value) (N i (k x)) _ ∙ ap (λ t. valuesOf (N i (k x)) ++ t) (values-each N k (i + 1) xs)
 
 -- the numbers of a sheet's records, part by part
-sheet-list : (h : Header) (vs : List Node) (ds : List Difference) → length vs ≡ h .nodes → length ds ≡ h .differences
-    → valuesOf (numbers (recordsOf (sheetOf h vs ds)))
-    ≡ headerList h ++ (eachList (nodeList (h .top)) 0 vs ++ eachList (λ i. differenceList (h .nodes)) 0 ds)
+sheet-list : (h : Header) (vs : List Node) (ds : List Difference) (c : Cycle) → length vs ≡ h .nodes → length ds ≡ h .differences
+    → valuesOf (numbers (recordsOf (sheetOf h vs ds c)))
+    ≡ headerList h ++ (eachList (nodeList (h .top)) 0 vs ++ (eachList (λ i. differenceList (h .nodes)) 0 ds ++ cycleList c))
 unfolding numbers
-sheet-list h vs ds n m =
+sheet-list h vs ds cy n m =
+    let isBox = boxIn (map nodeMeant (map nodeRecord vs)) in
+    let ws = cycleNumbers (h .nodes) isBox (cy .period) (cy .windows) in
+    let us = eachNumbers (λ i. differenceNumbers (h .nodes)) 0 (map differenceRecord ds) in
     let a = values-each (nodeNumbers (h .top)) nodeRecord 0 vs in
     let b = values-each (λ i. differenceNumbers (h .nodes)) differenceRecord 0 ds in
     let c = length-map vs nodeRecord ∙ n in
@@ -190,9 +237,11 @@ sheet-list h vs ds n m =
       c,
       d,
       each-rows (differenceNumbers (h .nodes)) 0 (map differenceRecord ds),
-      map-append (λ (e : Entry). e .value) (eachNumbers (nodeNumbers (h .top)) 0 (map nodeRecord vs)) (eachNumbers (λ i. differenceNumbers (h .nodes)) 0 (map differenceRecord ds)),
+      map-append (λ (e : Entry). e .value) (eachNumbers (nodeNumbers (h .top)) 0 (map nodeRecord vs)) (us ++ ws),
+      map-append (λ (e : Entry). e .value) us ws,
       a,
       b,
+      values-windows (h .nodes) isBox (cy .period) 0 (cy .windows),
     )
 
 -- a form asks a number for each field of what it ends in, so the numbers can be had back from the sheet
@@ -204,6 +253,7 @@ shows-sheet = all .shows
     all =
         bind headerForm afterHeader shows-header λ h nh eh.
         bind (each (nodeForm (h .top)) 0 (h .nodes)) (afterNodes h) (shows-each (nodeList (h .top)) (nodeForm (h .top)) (shows-node (h .top)) 0 (h .nodes)) λ vs nv hv.
-        bind (times (h .differences) (differenceForm (h .nodes))) (λ ds. done (sheetOf h vs ds))
+        bind (times (h .differences) (differenceForm (h .nodes))) (afterDifferences h vs)
         (shows-each (λ i. differenceList (h .nodes)) (λ i. differenceForm (h .nodes)) (λ i. shows-difference (h .nodes)) 0 (h .differences)) λ ds nd hd.
-        shows-done (sheetOf h vs ds) (rw (eh, hv .listed, hd .listed, append-nil (eachList (λ i. differenceList (h .nodes)) 0 ds), sheet-list h vs ds (hv .counted) (hd .counted)))
+        bind (cycleForm (h .nodes) (boxIn vs)) (λ c. done (sheetOf h vs ds c)) (shows-cycle (h .nodes) (boxIn vs)) λ c nc hc.
+        shows-done (sheetOf h vs ds c) (rw (eh, hv .listed, hd .listed, hc, append-nil (cycleList c), sheet-list h vs ds c (hv .counted) (hd .counted)))

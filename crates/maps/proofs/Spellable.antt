@@ -1,18 +1,18 @@
 -- Every number that the sheet's form lets pass has a spelling.
 use Prim.Native.Nat.{ℕ, zero, suc, _+_, _≤_, _<_}
 use mathlib.Core.Path.{_≡_}
-use mathlib.Core.Bool.{true}
+use mathlib.Core.Bool.{Bool, true}
 use mathlib.Core.List.{List, [], _∷_}
 use native.Mathlib.Omega.{arith}
 use borrow.Author.Tests.{ltb-true}
 use Rattle.maps.specs.Lists.{All}
-use Rattle.maps.specs.Sheet.{Sheet}
+use Rattle.maps.specs.Sheet.{Sheet, boxIn}
 use Rattle.maps.specs.Number.{values}
-use Rattle.maps.specs.Limits.{Range, leavesRange, topRange, horizonRange, sizeRange, countRange, kindRange, markRange, idRange, weightRange, rangesOf}
-use Rattle.maps.specs.Form.{among, under, passes, Form, done, ask, _>>=_, asked, each, times, Leads}
-use Rattle.maps.specs.Read.{nodeOf, headForm, nodeForm, differenceForm, Header, headerForm, sheetOf, sheetForm}
-use Rattle.maps.proofs.Parse.{in-range}
-use Rattle.maps.proofs.Along.{afterNodes, afterHeader}
+use Rattle.maps.specs.Limits.{Range, leavesRange, topRange, horizonRange, sizeRange, countRange, kindRange, markRange, idRange, weightRange, rangesOf, periodRange, windowsRange, boxRange, fromRange, toRange}
+use Rattle.maps.specs.Form.{among, under, passes, Form, done, ask, _>>=_, asked, each, times, chain, Leads}
+use Rattle.maps.specs.Read.{nodeOf, headForm, nodeForm, differenceForm, windowForm, nextId, cycleOf, cycleForm, Header, headerForm, sheetOf, sheetForm}
+use Rattle.maps.proofs.Parse.{in-range, in-boxed}
+use Rattle.maps.proofs.Along.{afterDifferences, afterNodes, afterHeader}
 
 -- each number that passes has a spelling, and what the form ends in has the property
 abbrev Spells : {A : Type 0} → (A → Type 0) → Form A → Type 0
@@ -31,6 +31,12 @@ spells-each f i zero h = tt
 spells-each f i (suc n) h =
     spells-bind Any Any (f i) (λ a. _>>=_ (each f (i + 1) n) (λ rest. done (a ∷ rest))) (h i (omega arith)) λ a u.
     spells-bind Any Any (each f (i + 1) n) (λ rest. done (a ∷ rest)) (spells-each f (i + 1) n (λ j l. h j (omega arith))) λ rest v. tt
+
+spells-chain : {A : Type 0} (next : A → ℕ) (f : ℕ → Form A) → ((j : ℕ) → Spells Any (f j)) → (i n : ℕ) → Spells Any (chain next f i n)
+spells-chain next f h i zero = tt
+spells-chain next f h i (suc n) =
+    spells-bind Any Any (f i) (λ a. _>>=_ (chain next f (next a) n) (λ rest. done (a ∷ rest))) (h i) λ a u.
+    spells-bind Any Any (chain next f (next a) n) (λ rest. done (a ∷ rest)) (spells-chain next f h (next a) n) λ rest v. tt
 
 -- a range whose values can be spelled
 fits : (r : Range) (x : ℕ) → r .high < values → passes (among r) x ≡ true → x < values
@@ -79,6 +85,25 @@ spells-difference n l = λ u pu. (
   λ v pv. (fits (idRange n) v (omega arith) pv, λ c pc. (fits weightRange c (omega arith) pc, tt)),
 )
 
+-- an id lies below n, and from and to within the period
+spells-window : (n : ℕ) (isBox : ℕ → Bool) (p low : ℕ) → n ≤ sizeRange .high → p ≤ periodRange .high → Spells Any (windowForm n isBox p low)
+unfolding windowForm
+spells-window n isBox p low ln lp = λ id pi. (
+  omega (arith, in-boxed (boxRange n low) isBox id pi .0 .most),
+  λ from pf. (fits (fromRange p) from (omega arith) pf, λ to pt. (fits (toRange p from) to (omega arith) pt, tt)),
+)
+
+spells-cycle : (n : ℕ) (isBox : ℕ → Bool) → n ≤ sizeRange .high → Spells Any (cycleForm n isBox)
+unfolding cycleForm
+spells-cycle n isBox l = λ p pp. (
+  fits periodRange p (omega arith) pp,
+  λ count pc. (
+    fits (windowsRange n) count (omega arith) pc,
+    spells-bind Any Any (chain nextId (windowForm n isBox p) 0 count) (λ ws. done (cycleOf p ws))
+        (spells-chain nextId (windowForm n isBox p) (λ j. spells-window n isBox p j l (in-range periodRange p pp .most)) 0 count) λ ws v. tt,
+  ),
+)
+
 -- T and n bound what comes after the header
 abbrev Bounded : Header → Type 0
 Bounded h = (h .top ≤ topRange .high) × (h .nodes ≤ sizeRange .high)
@@ -105,8 +130,9 @@ spells-sheet =
     spells-bind Bounded Any headerForm afterHeader spells-header λ h b.
     spells-bind Any Any (each (nodeForm (h .top)) 0 (h .nodes)) (afterNodes h)
     (spells-each (nodeForm (h .top)) 0 (h .nodes) (λ j l. spells-node (h .top) j (b .0) (omega (arith, b .1)))) λ vs u.
-    spells-bind Any Any (times (h .differences) (differenceForm (h .nodes))) (λ ds. done (sheetOf h vs ds))
-    (spells-each (λ i. differenceForm (h .nodes)) 0 (h .differences) (λ j l. spells-difference (h .nodes) (b .1))) λ ds v. tt
+    spells-bind Any Any (times (h .differences) (differenceForm (h .nodes))) (afterDifferences h vs)
+    (spells-each (λ i. differenceForm (h .nodes)) 0 (h .differences) (λ j l. spells-difference (h .nodes) (b .1))) λ ds v.
+    spells-bind Any Any (cycleForm (h .nodes) (boxIn vs)) (λ c. done (sheetOf h vs ds c)) (spells-cycle (h .nodes) (boxIn vs) (b .1)) λ c w. tt
 
 leads-spelled : {A : Type 0} (P : A → Type 0) (f g : Form A) (ns : List ℕ) → Spells P f → Leads f ns g → All (λ n. n < values) ns
 leads-spelled P f g [] h l = tt

@@ -1,7 +1,7 @@
 -- What is written: bytes, and how many at most.
 use Prim.Native.Nat.{ℕ, zero, suc, _+_, _-_, _*_, _≤_, _<_}
 use mathlib.Core.Path.{_≡_, refl, ap, _∙_}
-use mathlib.Core.Bool.{true}
+use mathlib.Core.Bool.{Bool, true}
 use mathlib.Core.List.{List, [], _∷_, _++_, map, map-append}
 use native.Mathlib.Omega.{arith}
 use native.Mathlib.Nat.{suc-mul, mul-le-mul-right}
@@ -9,16 +9,17 @@ use lib.ListN.{length, length-append, length-map}
 use borrow.Author.Tests.{ltb-true}
 use Rattle.maps.specs.Lists.{All, concat}
 use Rattle.maps.specs.Number.{width, values, encoded, encodedUpTo, bytesFor}
-use Rattle.maps.specs.Limits.{topRange, sizeRange, countRange, operandsMost, latencyMost, rangesOf}
-use Rattle.maps.specs.Form.{Rule, among, under, passes, done}
-use Rattle.maps.specs.Read.{sheetForm}
+use Rattle.maps.specs.Limits.{topRange, sizeRange, countRange, operandsMost, latencyMost, rangesOf, periodRange, windowsRange}
+use Rattle.maps.specs.Sheet.{Window}
+use Rattle.maps.specs.Form.{Rule, among, boxed, under, passes, done}
+use Rattle.maps.specs.Read.{nextId, sheetForm}
 use Rattle.maps.specs.Outcome.{accepted}
 use Rattle.maps.specs.Records.{NodeRecord, DifferenceRecord, Records, sheetMeant}
-use Rattle.maps.specs.Write.{Entry, entry, headEntries, headerNumbers, headNumbers, nodeNumbers, differenceNumbers, eachNumbers, numbers, valuesOf, spelled, Passes, writing}
-use Rattle.maps.specs.Sizes.{idBytesMost, ruleBytes, bytesMost, headBytesMost, nodeBytesMost, differenceBytesMost, planMost, sheetMost}
+use Rattle.maps.specs.Write.{Entry, entry, headEntries, headerNumbers, headNumbers, nodeNumbers, differenceNumbers, windowNumbers, chainNumbers, cycleNumbers, boxesOf, eachNumbers, numbers, valuesOf, spelled, Passes, writing}
+use Rattle.maps.specs.Sizes.{idBytesMost, ruleBytes, bytesMost, headBytesMost, nodeBytesMost, differenceBytesMost, windowBytesMost, cycleBytesMost, planMost, sheetMost}
 use Rattle.maps.proofs.Member.{All-join, All-split}
 use Rattle.maps.proofs.Spelling.{written-bytes, written-grows}
-use Rattle.maps.proofs.Parse.{in-range, few}
+use Rattle.maps.proofs.Parse.{in-range, in-boxed, few}
 use Rattle.maps.proofs.Along.{along-sheet, along-end}
 use Rattle.maps.proofs.Spellable.{leads-small}
 use Rattle.maps.proofs.Numbers.{spelled-append}
@@ -40,7 +41,7 @@ pub plan-most : planMost ≡ 4611
 unfolding encodedUpTo
 plan-most = refl
 
-pub sheet-most : sheetMost ≡ 12041
+pub sheet-most : sheetMost ≡ 13068
 unfolding encodedUpTo
 sheet-most = refl
 
@@ -91,10 +92,12 @@ ids-most own (u ∷ us) = omega (arith, suc-mul (length us) idBytesMost, ids-mos
 -- numbers that pass take no more than their rules allow, where an operand's node is one of the sheet's
 abbrev Placed : Rule → Type 0
 Placed (among r) = Unit {0}
+Placed (boxed r isBox) = Unit {0}
 Placed (under own) = own ≤ sizeRange .high
 
 rule-bytes : (r : Rule) (x : ℕ) → passes r x ≡ true → Placed r → bytesFor x ≤ ruleBytes r
 rule-bytes (among r) x p q = within-bytes (in-range r x p .most)
+rule-bytes (boxed r isBox) x p q = within-bytes (in-boxed r isBox x p .0 .most)
 rule-bytes (under own) x p q = id-bytes (omega (arith, ltb-true x own p))
 
 abbrev bytesOf : List Entry → List ℕ
@@ -156,14 +159,50 @@ differences-bytes n (d ∷ ds) s l p =
       differences-bytes n ds s l (t .1),
     )
 
+windows-bytes : (n : ℕ) (isBox : ℕ → Bool) (p low : ℕ) (ws : List Window) → 0 < n → n ≤ sizeRange .high → p ≤ periodRange .high
+    → All Passes (chainNumbers nextId (windowNumbers n isBox p) low ws)
+    → length (bytesOf (chainNumbers nextId (windowNumbers n isBox p) low ws)) ≤ length ws * windowBytesMost
+windows-bytes n isBox p low [] s l lp q = omega arith
+windows-bytes n isBox p low (w ∷ ws) s l lp q =
+    let rest = chainNumbers nextId (windowNumbers n isBox p) (nextId w) ws in
+    let t = All-split Passes (windowNumbers n isBox p low w) rest q in
+    omega (
+      arith,
+      suc-mul (length ws) windowBytesMost,
+      bytes-append (windowNumbers n isBox p low w) rest,
+      passes-bytes (windowNumbers n isBox p low w) (t .0) (tt, (tt, (tt, tt))),
+      id-bytes {x = n - 1} (omega arith),
+      within-bytes {n = p - 1} {most = periodRange .high} (omega arith),
+      within-bytes {n = p} {most = periodRange .high} lp,
+      windows-bytes n isBox p (nextId w) ws s l lp (t .1),
+    )
+
+cycle-bytes : (n : ℕ) (isBox : ℕ → Bool) (p : ℕ) (ws : List Window) → 0 < n → n ≤ sizeRange .high → All Passes (cycleNumbers n isBox p ws)
+    → length (bytesOf (cycleNumbers n isBox p ws)) ≤ cycleBytesMost
+cycle-bytes n isBox p ws s l q =
+    let head = entry (among periodRange) p ∷ entry (among (windowsRange n)) (length ws) ∷ [] in
+    let rest = chainNumbers nextId (windowNumbers n isBox p) 0 ws in
+    let m = in-range (windowsRange n) (length ws) (q .1 .0) .most in
+    let k : length ws ≤ sizeRange .high = omega arith in
+    omega (
+      arith,
+      bytes-append head rest,
+      passes-bytes head (q .0, (q .1 .0, tt)) (tt, (tt, tt)),
+      within-bytes {n = n} {most = sizeRange .high} l,
+      windows-bytes n isBox p 0 ws s l (in-range periodRange p (q .0) .most) (q .1 .1),
+      mul-le-mul-right windowBytesMost k,
+    )
+
 -- so much room is enough: each part takes at most its bytes, and there are at most so many parts
 pub numbers-most : (R : Records) → All Passes (numbers R) → length (spelled (valuesOf (numbers R))) ≤ sheetMost
 unfolding numbers
 numbers-most R p =
     let vs = eachNumbers (nodeNumbers (R .top)) 0 (R .nodes) in
     let ds = concat (map (differenceNumbers (length (R .nodes))) (R .differences)) in
-    let h = All-split Passes (headerNumbers R) (vs ++ ds) p in
-    let v = All-split Passes vs ds (h .1) in
+    let ws = cycleNumbers (length (R .nodes)) (boxesOf R) (R .period) (R .windows) in
+    let h = All-split Passes (headerNumbers R) (vs ++ (ds ++ ws)) p in
+    let v = All-split Passes vs (ds ++ ws) (h .1) in
+    let d = All-split Passes ds ws (v .1) in
     let t = in-range topRange (R .top) (p .1 .0) in
     let n = in-range sizeRange (length (R .nodes)) (p .1 .1 .1 .0) in
     let m = in-range countRange (length (R .differences)) (p .1 .1 .1 .1 .0) in
@@ -171,9 +210,11 @@ numbers-most R p =
     let differences = mul-le-mul-right differenceBytesMost (m .most) in
     omega (
       arith,
-      bytes-append (headerNumbers R) (vs ++ ds),
-      bytes-append vs ds,
+      bytes-append (headerNumbers R) (vs ++ (ds ++ ws)),
+      bytes-append vs (ds ++ ws),
+      bytes-append ds ws,
       passes-bytes (headerNumbers R) (h .0) (tt, (tt, (tt, (tt, (tt, tt))))),
       nodes-bytes (R .top) 0 (R .nodes) (t .most) (omega (arith, n .most)) (v .0),
-      differences-bytes (length (R .nodes)) (R .differences) (n .least) (n .most) (v .1),
+      differences-bytes (length (R .nodes)) (R .differences) (n .least) (n .most) (d .0),
+      cycle-bytes (length (R .nodes)) (boxesOf R) (R .period) (R .windows) (n .least) (n .most) (d .1),
     )

@@ -7,18 +7,21 @@ use lib.Dec.{leb, ltb}
 use Rattle.maps.specs.Number.{Got, got, refusal, Reader, andThen, number}
 use Rattle.maps.specs.Limits.{Range}
 
--- what is asked of a number: that it lies in a range, or below the node's own id
+-- what is asked of a number: that it lies in a range, that it lies in a range and is the id of a box, or that it lies below the node's own id
 pub data Rule : Type 0 where
   among : Range → Rule
+  boxed : Range → (isBox : ℕ → Bool) → Rule
   under : (own : ℕ) → Rule
 
 abbrev pub passes : Rule → ℕ → Bool
 passes (among r) x = leb (r .low) x && leb x (r .high)
+passes (boxed r isBox) x = (leb (r .low) x && leb x (r .high)) && isBox x
 passes (under own) x = ltb x own
 
 -- 3, "a value, u and v included, is outside its range"; 4, "an operand id is not below the node's own"
 abbrev pub ground : Rule → ℕ
 ground (among r) = 3
+ground (boxed r isBox) = 3
 ground (under own) = 4
 
 pub data Form (A : Type 0) : Type 0 where
@@ -44,6 +47,14 @@ each f i (suc n) = do
 -- the form f, n times
 abbrev pub times : {A : Type 0} → ℕ → Form A → Form (List A)
 times n f = each (λ i. f) 0 n
+
+-- n forms one after the other, first f i, and after what gave a the form f (next a)
+abbrev pub chain : {A : Type 0} → (A → ℕ) → (ℕ → Form A) → (i n : ℕ) → Form (List A)
+chain next f i zero = done []
+chain next f i (suc n) = do
+  a ← f i
+  rest ← chain next f (next a) n
+  done (a ∷ rest)
 
 -- a number that is as asked, else its ground at its first byte: "spelling before value"
 abbrev pub tested : Rule → Reader ℕ

@@ -44,6 +44,23 @@ weightMost = horizonRange .high
 abbrev pub weightRange : Range
 weightRange = range 0 (weightMost + weightMost)
 
+-- document 02, U8: "a period P (1 to 64), a count (0 to n)"; an id of an entry, "in rising id order", from low on; "from in 0 to P − 1, to in
+-- from + 1 to P"
+abbrev pub periodRange : Range
+periodRange = range 1 64
+
+abbrev pub windowsRange : (size : ℕ) → Range
+windowsRange n = range 0 n
+
+abbrev pub boxRange : (size low : ℕ) → Range
+boxRange n low = range low (n - 1)
+
+abbrev pub fromRange : (period : ℕ) → Range
+fromRange p = range 0 (p - 1)
+
+abbrev pub toRange : (period from : ℕ) → Range
+toRange p from = range (from + 1) p
+
 -- the most operands of a node, and the greatest lat
 abbrev pub operandsMost : ℕ
 operandsMost = 6

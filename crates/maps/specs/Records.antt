@@ -5,11 +5,12 @@ use mathlib.Core.List.{List, map}
 use lib.Dec.{eqb}
 use lib.IntN.{ℤ, pos, negsuc}
 use lib.ListN.{length}
-use Rattle.maps.specs.Sheet.{Sheet, Node, Difference, latencyOf, clockToQOf}
+use Rattle.maps.specs.Sheet.{Sheet, Node, Difference, Window, latencyOf, clockToQOf}
 use Rattle.maps.specs.Read.{kindOf, Head, nodeOf}
 use Rattle.maps.specs.WellFormed.{codeOf}
 
--- "header, nodes and differences", of any numbers: a node with its operand ids, a difference (u, v, w), and K, T, H with all of them
+-- "header, nodes and differences", of any numbers: a node with its operand ids, a difference (u, v, w), and K, T, H with all of them; from document
+-- 02, U8, on P and the entries of windows too, which are records as they stand
 pub record NodeRecord : Type 0 where
   pub kind : ℕ
   pub mark : ℕ
@@ -29,6 +30,8 @@ pub record Records : Type 0 where
   pub horizon : ℕ
   pub nodes : List NodeRecord
   pub differences : List DifferenceRecord
+  pub period : ℕ
+  pub windows : List Window
 
 -- the sheet that records mean
 abbrev pub headMeant : NodeRecord → Head
@@ -58,6 +61,8 @@ sheetMeant R =
       horizon = R .horizon;
       nodes = map nodeMeant (R .nodes);
       differences = map differenceMeant (R .differences);
+      period = R .period;
+      windows = R .windows;
     }
 
 -- the records of a sheet
@@ -88,4 +93,6 @@ recordsOf S =
       horizon = S .horizon;
       nodes = map nodeRecord (S .nodes);
       differences = map differenceRecord (S .differences);
+      period = S .period;
+      windows = S .windows;
     }

@@ -2,8 +2,8 @@
 use Prim.Native.Nat.{ℕ, _+_, _*_}
 use mathlib.Core.List.{List, [], _∷_}
 use Rattle.maps.specs.Number.{bytesFor}
-use Rattle.maps.specs.Limits.{leavesRange, topRange, horizonRange, sizeRange, countRange, kindRange, markRange, idRange, weightRange, operandsMost, latencyMost}
-use Rattle.maps.specs.Form.{Rule, among, under}
+use Rattle.maps.specs.Limits.{leavesRange, topRange, horizonRange, sizeRange, countRange, kindRange, markRange, idRange, weightRange, operandsMost, latencyMost, periodRange, windowsRange}
+use Rattle.maps.specs.Form.{Rule, among, boxed, under}
 use Rattle.maps.specs.Write.{Entry}
 
 -- an id
@@ -13,6 +13,7 @@ idBytesMost = bytesFor (idRange (sizeRange .high) .high)
 -- a number of the sheet that passes; several of them
 abbrev pub ruleBytes : Rule → ℕ
 ruleBytes (among r) = bytesFor (r .high)
+ruleBytes (boxed r isBox) = bytesFor (r .high)
 ruleBytes (under own) = idBytesMost
 
 abbrev pub bytesMost : List Entry → ℕ
@@ -54,5 +55,13 @@ nodeBytesMost = headBytesMost + operandsMost * idBytesMost
 abbrev pub differenceBytesMost : ℕ
 differenceBytesMost = idBytesMost + idBytesMost + bytesFor (weightRange .high)
 
+-- box id, from, to
+abbrev pub windowBytesMost : ℕ
+windowBytesMost = idBytesMost + bytesFor (periodRange .high) + bytesFor (periodRange .high)
+
+-- P, the count, and the entries
+abbrev pub cycleBytesMost : ℕ
+cycleBytesMost = bytesFor (periodRange .high) + bytesFor (sizeRange .high) + sizeRange .high * windowBytesMost
+
 abbrev pub sheetMost : ℕ
-sheetMost = headerBytesMost + sizeRange .high * nodeBytesMost + countRange .high * differenceBytesMost
+sheetMost = headerBytesMost + sizeRange .high * nodeBytesMost + countRange .high * differenceBytesMost + cycleBytesMost

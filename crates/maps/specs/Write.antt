@@ -1,16 +1,17 @@
 -- Document 02, U1: the sheet writer. "Given header, nodes and differences, it writes the sheet."
 use Prim.Native.Nat.{ℕ, _+_, _*_}
 use mathlib.Core.Path.{_≡_}
-use mathlib.Core.Bool.{true, false, cond}
+use mathlib.Core.Bool.{Bool, true, false, cond}
 use mathlib.Core.List.{List, [], _∷_, _++_, map}
 use lib.IntN.{ℤ, pos, negsuc}
 use lib.ListN.{length}
 use Rattle.maps.specs.Lists.{All, concat}
 use Rattle.maps.specs.Number.{encoded, encodedUpTo}
-use Rattle.maps.specs.Limits.{leavesRange, topRange, horizonRange, sizeRange, countRange, kindRange, markRange, idRange, weightRange, rangesOf}
-use Rattle.maps.specs.Sheet.{Sheet}
-use Rattle.maps.specs.Form.{Rule, among, under, passes, ground}
-use Rattle.maps.specs.Records.{NodeRecord, DifferenceRecord, Records, recordsOf}
+use Rattle.maps.specs.Limits.{leavesRange, topRange, horizonRange, sizeRange, countRange, kindRange, markRange, idRange, weightRange, rangesOf, periodRange, windowsRange, boxRange, fromRange, toRange}
+use Rattle.maps.specs.Sheet.{Sheet, Window, boxIn}
+use Rattle.maps.specs.Form.{Rule, among, boxed, under, passes, ground}
+use Rattle.maps.specs.Read.{nextId}
+use Rattle.maps.specs.Records.{NodeRecord, DifferenceRecord, Records, nodeMeant, recordsOf}
 use Rattle.maps.specs.Outcome.{Outcome, refusal, within}
 
 -- a number of the sheet, with what the reader asks of it
@@ -66,6 +67,28 @@ differenceNumbers n d =
     ∷ entry (among weightRange) (codeOfWeight (d .weight))
     ∷ []
 
+-- document 02, U8: "box id, from, to"
+abbrev pub windowNumbers : (size : ℕ) → (isBox : ℕ → Bool) → (period low : ℕ) → Window → List Entry
+windowNumbers n isBox p low w =
+    entry (boxed (boxRange n low) isBox) (w .id)
+    ∷ entry (among (fromRange p)) (w .from)
+    ∷ entry (among (toRange p (w .from))) (w .to)
+    ∷ []
+
+-- the numbers of rows of which each has a bearing on the next one's
+abbrev pub chainNumbers : {A : Type 0} → (A → ℕ) → (ℕ → A → List Entry) → ℕ → List A → List Entry
+chainNumbers next f i [] = []
+chainNumbers next f i (x ∷ xs) = f i x ++ chainNumbers next f (next x) xs
+
+-- "a period P .., a count .., and that many entries"
+abbrev pub cycleNumbers : (size : ℕ) → (isBox : ℕ → Bool) → (period : ℕ) → List Window → List Entry
+cycleNumbers n isBox p ws =
+    entry (among periodRange) p ∷ entry (among (windowsRange n)) (length ws) ∷ chainNumbers nextId (windowNumbers n isBox p) 0 ws
+
+-- which ids the nodes given make boxes
+abbrev pub boxesOf : Records → ℕ → Bool
+boxesOf R = boxIn (map nodeMeant (R .nodes))
+
 -- the numbers of the nodes with ids i, i + 1, ..
 abbrev pub eachNumbers : {A : Type 0} → (ℕ → A → List Entry) → ℕ → List A → List Entry
 eachNumbers f i [] = []
@@ -75,7 +98,8 @@ eachNumbers f i (x ∷ xs) = f i x ++ eachNumbers f (i + 1) xs
 unfoldable pub numbers : Records → List Entry
 numbers R =
     headerNumbers R
-    ++ (eachNumbers (nodeNumbers (R .top)) 0 (R .nodes) ++ concat (map (differenceNumbers (length (R .nodes))) (R .differences)))
+    ++ (eachNumbers (nodeNumbers (R .top)) 0 (R .nodes)
+    ++ (concat (map (differenceNumbers (length (R .nodes))) (R .differences)) ++ cycleNumbers (length (R .nodes)) (boxesOf R) (R .period) (R .windows)))
 
 abbrev pub valuesOf : List Entry → List ℕ
 valuesOf = map (λ e. e .value)

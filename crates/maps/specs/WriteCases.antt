@@ -7,6 +7,7 @@ use lib.IntN.{ℤ, pos, negsuc}
 use lib.ListN.{replicate}
 use Rattle.maps.specs.Lists.{all}
 use Rattle.maps.specs.Outcome.{Outcome, accepted, refusal}
+use Rattle.maps.specs.Sheet.{Window}
 use Rattle.maps.specs.Records.{NodeRecord, DifferenceRecord, Records}
 use Rattle.maps.specs.Write.{writing}
 use Rattle.maps.specs.Cases.{isOutcome}
@@ -18,15 +19,21 @@ unfoldable pub holds : Case → Bool
 unfolding writing
 holds (writes G room o) = isOutcome (writing G room) o
 
--- kind, mark, d, lat, q, operands; u, v, w; K, T, H, nodes, differences
+-- kind, mark, d, lat, q, operands; u, v, w; K, T, H, nodes, differences, P and entries; the same with P = 1 and no entries
 abbrev node : (kind mark d lat q : ℕ) → List ℕ → NodeRecord
 node k o d l q us = record { kind = k; mark = o; delay = d; latency = l; clockToQ = q; operands = us }
 
 abbrev gap : (u v : ℕ) → ℤ → DifferenceRecord
 gap u v w = record { from = u; to = v; weight = w }
 
+abbrev window : (id from to : ℕ) → Window
+window i f t = record { id = i; from = f; to = t }
+
+abbrev timed : (k t h : ℕ) → List NodeRecord → List DifferenceRecord → ℕ → List Window → Records
+timed k t h vs ds p ws = record { leaves = k; top = t; horizon = h; nodes = vs; differences = ds; period = p; windows = ws }
+
 abbrev given : (k t h : ℕ) → List NodeRecord → List DifferenceRecord → Records
-given k t h vs ds = record { leaves = k; top = t; horizon = h; nodes = vs; differences = ds }
+given k t h vs ds = timed k t h vs ds 1 []
 
 abbrev inputNode : NodeRecord
 inputNode = node 0 0 0 0 0 []
@@ -38,7 +45,7 @@ hallNodes =
 abbrev hall : Records
 hall = given 3 2 4 hallNodes (gap 0 5 (pos 1) ∷ [])
 
--- "The hall sheet in hexadecimal, 44 bytes", and q = 0 in each of its six nodes
+-- "The hall sheet in hexadecimal, 44 bytes", and q = 0 in each of its six nodes, and P = 1 and no entries
 abbrev hallSheet : List ℕ
 hallSheet =
     (0x03 ∷ 0x02 ∷ 0x04 ∷ 0x06 ∷ 0x01 ∷ [])
@@ -47,6 +54,7 @@ hallSheet =
     ++ (0x01 ∷ 0x00 ∷ 0x01 ∷ 0x00 ∷ 0x00 ∷ 0x02 ∷ 0x03 ∷ 0x02 ∷ [])
     ++ (0x01 ∷ 0x01 ∷ 0x01 ∷ 0x00 ∷ 0x00 ∷ 0x02 ∷ 0x04 ∷ 0x03 ∷ [])
     ++ (0x00 ∷ 0x05 ∷ 0x02 ∷ [])
+    ++ (0x01 ∷ 0x00 ∷ [])
 
 -- an input and one more node; an input and one difference
 abbrev two : NodeRecord → Records
@@ -56,13 +64,17 @@ abbrev apart : DifferenceRecord → Records
 apart d = given 2 1 65535 (inputNode ∷ []) (d ∷ [])
 
 abbrev apartSheet : List ℕ → List ℕ
-apartSheet w = (2 ∷ 1 ∷ 0xff ∷ 0xff ∷ 0x03 ∷ 1 ∷ 1 ∷ 0 ∷ 0 ∷ 0 ∷ 0 ∷ 0 ∷ 0 ∷ 0 ∷ 0 ∷ []) ++ w
+apartSheet w = (2 ∷ 1 ∷ 0xff ∷ 0xff ∷ 0x03 ∷ 1 ∷ 1 ∷ 0 ∷ 0 ∷ 0 ∷ 0 ∷ 0 ∷ 0 ∷ 0 ∷ 0 ∷ []) ++ w ++ (1 ∷ 0 ∷ [])
+
+-- an input and a box, with P and entries: P is number 17
+abbrev sensed : ℕ → List Window → Records
+sensed p ws = timed 2 1 0 (inputNode ∷ node 2 0 0 0 0 [] ∷ []) [] p ws
 
 unfoldable pub cases : List Case
 cases =
     -- the hall sheet; 8 one byte short
-    writes hall 50 (accepted hallSheet)
-    ∷ writes hall 49 (refusal 8 50)
+    writes hall 52 (accepted hallSheet)
+    ∷ writes hall 51 (refusal 8 52)
     -- the header: the first in the sheet's order decides; n and m are numbers 3 and 4; a number without a spelling
     ∷ writes (given 7 2 4 [] []) 64 (refusal 3 0)
     ∷ writes (given 3 2 4 [] []) 64 (refusal 3 3)
@@ -81,7 +93,7 @@ cases =
     ∷ writes (two (node 2 0 0 0 1 (0 ∷ []))) 64 (refusal 3 15)
     ∷ writes (two (node 2 0 0 1 2 (0 ∷ []))) 64 (refusal 3 15)
     ∷ writes (two (node 2 0 0 255 1 (0 ∷ []))) 64
-    (accepted (2 ∷ 1 ∷ 0 ∷ 2 ∷ 0 ∷ 0 ∷ 0 ∷ 0 ∷ 0 ∷ 0 ∷ 0 ∷ 2 ∷ 0 ∷ 0 ∷ 0xff ∷ 0x01 ∷ 1 ∷ 1 ∷ 0 ∷ []))
+    (accepted (2 ∷ 1 ∷ 0 ∷ 2 ∷ 0 ∷ 0 ∷ 0 ∷ 0 ∷ 0 ∷ 0 ∷ 0 ∷ 2 ∷ 0 ∷ 0 ∷ 0xff ∷ 0x01 ∷ 1 ∷ 1 ∷ 0 ∷ 1 ∷ 0 ∷ []))
     ∷ writes (two (node 0 0 0 0 0 (9 ∷ []))) 64 (refusal 3 16)
     ∷ writes (two (node 1 0 1 0 0 (9 ∷ 9 ∷ 9 ∷ 9 ∷ 9 ∷ 9 ∷ 9 ∷ []))) 64 (refusal 3 16)
     ∷ writes (two (node 1 0 1 0 0 [])) 64 (refusal 3 16)
@@ -100,6 +112,19 @@ cases =
     ∷ writes (apart (gap 0 0 (negsuc 8191))) 64 (accepted (apartSheet (0xff ∷ 0x7f ∷ [])))
     ∷ writes (apart (gap 0 0 (pos 8192))) 64 (accepted (apartSheet (0x80 ∷ 0x80 ∷ 0x01 ∷ [])))
     ∷ writes (apart (gap 0 0 (negsuc 0))) 64 (accepted (apartSheet (1 ∷ [])))
+    -- document 02, U8: P, the count, an id that is an input, of no node, without a spelling, not above the one before; from, to
+    ∷ writes (sensed 0 []) 64 (refusal 3 17)
+    ∷ writes (sensed 65 []) 64 (refusal 3 17)
+    ∷ writes (sensed 8 (window 0 9 9 ∷ window 0 9 9 ∷ window 0 9 9 ∷ [])) 64 (refusal 3 18)
+    ∷ writes (sensed 8 (window 0 2 4 ∷ [])) 64 (refusal 3 19)
+    ∷ writes (sensed 8 (window 2 2 4 ∷ [])) 64 (refusal 3 19)
+    ∷ writes (sensed 8 (window 3000000 2 4 ∷ [])) 64 (refusal 3 19)
+    ∷ writes (sensed 8 (window 1 2 4 ∷ window 1 2 4 ∷ [])) 64 (refusal 3 22)
+    ∷ writes (sensed 8 (window 1 8 9 ∷ [])) 64 (refusal 3 20)
+    ∷ writes (sensed 8 (window 1 2 2 ∷ [])) 64 (refusal 3 21)
+    ∷ writes (sensed 8 (window 1 2 9 ∷ [])) 64 (refusal 3 21)
+    ∷ writes (sensed 8 (window 1 2 4 ∷ [])) 64
+    (accepted (2 ∷ 1 ∷ 0 ∷ 2 ∷ 0 ∷ 0 ∷ 0 ∷ 0 ∷ 0 ∷ 0 ∷ 0 ∷ 2 ∷ 0 ∷ 0 ∷ 0 ∷ 0 ∷ 0 ∷ 8 ∷ 1 ∷ 1 ∷ 2 ∷ 4 ∷ []))
     ∷ []
 
 pub marked : T (all holds cases)

@@ -1,4 +1,4 @@
--- The labels of any horizon: `leastEver` gives the least legal labels, or says late, and then nothing is legal under any horizon. Where they are in
+-- The labels of any horizon, of a sheet without windows: `leastEver` gives the least legal labels, or says late, and then nothing is legal under any horizon. Where they are in
 -- time for a horizon they are the least legal ones within it; where not, nothing is legal within it, but within a larger one.
 use Prim.Native.Nat.{ℕ, _+_, _≤_, _<_}
 use mathlib.Core.Path.{_≡_, refl, sym, subst, ap}
@@ -25,7 +25,7 @@ ever-is : (S : Sheet) → leastEver S ≡ leastWithin S (readyBound S)
 unfolding leastEver
 ever-is S = refl
 
-module _ (S : Sheet) (well : WellFormed S) (cuts : cutless S ≡ []) where
+module _ (S : Sheet) (well : WellFormed S) (free : S .windows ≡ []) (cuts : cutless S ≡ []) where
   closed : Closed S
   closed = well-closed S well
 
@@ -35,7 +35,7 @@ module _ (S : Sheet) (well : WellFormed S) (cuts : cutless S ≡ []) where
     where
       go : {r : Labels} → Answer S G r → (L : List Label) × Least S (readyBound S) (at L)
       go (none h) = absurd (h M ok)
-      go (some {L} n h) = (L, least-ready S closed G (at L) h)
+      go (some {L} n h) = (L, least-ready S closed free G (at L) h)
 
   -- Why no horizon need be tried but `readyBound`. Suppose that nothing is legal within it, and M within some G. Then there are least labels within G,
   -- for the computed ones are (`least-right`), and no least label is later than `readyBound`: they are legal within it after all.
@@ -101,7 +101,7 @@ module _ (S : Sheet) (well : WellFormed S) (cuts : cutless S ≡ []) where
   in-time-computed L n h = (go ever-right, pick (inTime S L (S .horizon)) refl)
     where
       l : Least S (readyBound S) (at L)
-      l = least-ready S closed (S .horizon) (at L) h
+      l = least-ready S closed free (S .horizon) (at L) h
 
       go : {r : Labels} → E.Ever S r → r ≡ least L
       go (E.never k) = absurd (k (S .horizon) (at L) (h .legal))

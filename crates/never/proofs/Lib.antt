@@ -1,3 +1,4 @@
 pub mod Meet
 pub mod ReadyBounds
 pub mod Horizons
+pub mod Entries

@@ -11,7 +11,8 @@ use mathlib.Core.Logic.{_⊎_, inl, inr}
 use mathlib.Core.List.{List·Memᴰ}
 use native.Mathlib.Omega.{arith}
 use Rattle.maps.specs.Label.{Label, _≼_, sooner}
-use Rattle.maps.specs.Sheet.{Sheet, Kind, input, logic, box, node, size, latency, clockToQ}
+use Rattle.maps.specs.Sheet.{Sheet, Kind, input, logic, box, node, size, window, latency, clockToQ}
+use Rattle.maps.specs.Window.{Open}
 use Rattle.maps.specs.Cut.{cut}
 use Rattle.maps.specs.Legal.{readyOf, arrives, Carried, Legal, Least}
 use Rattle.maps.proofs.Order.{≼-refl, ≼-trans, plus-mono, ready-mono, sooner-is, sooner-left, sooner-right}
@@ -56,6 +57,7 @@ module _ (S : Sheet) (closed : Closed S) where
                 ap (λ (a : Label). a .step) same,
               ));
           carried = kinds (node S v .kind) (ok .carried);
+          starts = subst (λ (a : Label). Open (S .period) (window S v) (a .step)) (sym same) (ok .starts);
         }
 
     diffs-back : DiffsInto S Q v → DiffsInto S N v

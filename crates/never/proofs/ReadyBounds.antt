@@ -1,7 +1,8 @@
--- No ready label of least labels is later than `readyBound`, whatever the horizon that they are legal within.
+-- Without windows no ready label of least labels is later than `readyBound`, whatever the horizon that they are legal within.
 use Prim.Native.Nat.{ℕ, _+_, _-_, _*_, _≤_, _<_}
 use mathlib.Core.Path.{_≡_, refl}
 use mathlib.Core.Bool.{Bool, true, false}
+use mathlib.Core.List.{[]}
 use native.Mathlib.Omega.{arith}
 use native.Mathlib.Nat.{mul-le-mul-right, mul-le-mul-left}
 use Rattle.maps.specs.Limits.{weightMost, latencyMost, readyMost}
@@ -15,13 +16,13 @@ use Rattle.maps.proofs.Member.{below-in, below-out, greatest-from, greatest-mos
 use Rattle.relax.proofs.Closed.{Closed, latency-most}
 use Rattle.relax.proofs.Guard.{legal-node}
 use Rattle.relax.proofs.Forced.{ok-after}
-use Rattle.relax.proofs.Afloat.{floats-never}
+use Rattle.relax.proofs.Afloat.{shift-one, floats-never}
 use Rattle.relax.specs.Hold.{Held}
 use Rattle.relax.proofs.Held.{Climb, well-climb, held-set, grown-held, held-bound}
 use Rattle.never.proofs.Meet.{least-guarded}
 
 -- no operand and no difference asks for more than `greatestWeight`, which is the least such number
-weight-climbs : (S : Sheet) → Climb S (greatestWeight S)
+weight-climbs : (S : Sheet) → Climb S 1 (greatestWeight S)
 unfolding greatestWeight
 weight-climbs S =
     record {
@@ -29,13 +30,13 @@ weight-climbs S =
       forwards = λ d m. omega (arith, greatest-from (λ d. d .plus) (S .differences) m);
     }
 
-weight-most : (S : Sheet) (W : ℕ) → Climb S W → greatestWeight S ≤ W
+weight-most : (S : Sheet) (W : ℕ) → Climb S 1 W → greatestWeight S ≤ W
 unfolding greatestWeight
 weight-most S W c =
     omega (
       arith,
       greatest-most (λ v. latency S v + 1) W (below (size S)) (λ u m. c .latencies u (below-out (size S) u m)),
-      greatest-most (λ d. d .plus) W (S .differences) (c .forwards),
+      greatest-most (λ d. d .plus) W (S .differences) (λ d m. omega (arith, c .forwards d m)),
     )
 
 -- `readyBound` is at most `readyMost`, whatever the sheet
@@ -53,31 +54,31 @@ least-within S G H L h ends =
     record {
       legal = record {
         nodes = λ v l. let k = h .legal .nodes v l in
-            record { low = k .low; high = k .high; ends = ends v l; after = k .after; carried = k .carried };
+            record { low = k .low; high = k .high; ends = ends v l; after = k .after; carried = k .carried; starts = k .starts };
         differences = h .legal .differences;
       };
       least = h .least;
     }
 
-module _ (S : Sheet) (closed : Closed S) (G : ℕ) (L : ℕ → Label) (h : Least S G L) where
+module _ (S : Sheet) (closed : Closed S) (free : S .windows ≡ []) (G : ℕ) (L : ℕ → Label) (h : Least S G L) where
   -- Why least labels are no later. They are guarded and legal. If some node floated, nothing would be legal (`floats-never`), but they are. So
   -- every node is held, and held steps are within n - 1 climbs (`held-bound`).
-  all-held : (v : ℕ) → v < size S → Held S L v
+  all-held : (v : ℕ) → v < size S → Held S 1 L v
   all-held v l = go (held v) refl
     where
       held : ℕ → Bool
-      held = held-set S closed L .0
+      held = held-set S closed 1 L .0
 
-      go : (t : Bool) → held v ≡ t → Held S L v
-      go true e = grown-held S L closed held (held-set S closed L .1) v l e
+      go : (t : Bool) → held v ≡ t → Held S 1 L v
+      go true e = grown-held S 1 L closed held (held-set S closed 1 L .1) v l e
       go false e =
-          absurd (floats-never S closed L (λ w k. ok-after S L w (legal-node S L (h .legal) w k)) held (held-set S closed L .2)
+          absurd (floats-never S closed 1 (shift-one S closed free) L (λ w k. ok-after S L w (legal-node S L (h .legal) w k)) held (held-set S closed 1 L .2)
           (least-guarded S closed G L h) v l e L G (h .legal))
 
   ends : (v : ℕ) → v < size S → L v .step + latency S v ≤ readyBound S
   unfolding readyBound
   ends v l =
-      omega (arith, held-bound S closed L (greatestWeight S) (weight-climbs S) all-held v l, greatest-from (latency S) (below (size S)) (below-in (size S) v l))
+      omega (arith, held-bound S closed 1 L (greatestWeight S) (weight-climbs S) all-held v l, greatest-from (latency S) (below (size S)) (below-in (size S) v l))
 
   -- least labels within any horizon are least within `readyBound`
   pub least-ready : Least S (readyBound S) L

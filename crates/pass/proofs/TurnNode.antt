@@ -1,5 +1,5 @@
 -- The label that settles a node in its turn, and the cuts that are kept beside it.
-use Prim.Native.Nat.{ℕ, _≤_, _<_}
+use Prim.Native.Nat.{ℕ, _+_, _≤_, _<_}
 use mathlib.Core.Path.{_≡_, refl, sym, subst, ap, _∙_}
 use mathlib.Core.Bool.{Bool, true, false}
 use mathlib.Core.List.{List, List·Memᴰ}
@@ -10,12 +10,14 @@ use lib.ListN.{length, getD}
 use borrow.Author.Tests.{eqb-true, eqb-false}
 use Rattle.maps.specs.Label.{Label, _≼_}
 use Rattle.maps.specs.Lists.{All}
-use Rattle.maps.specs.Sheet.{Sheet, Kind, input, logic, box, node, size, isLogic}
+use Rattle.maps.specs.Sheet.{Sheet, Kind, input, logic, box, node, size, window, isLogic}
+use Rattle.maps.specs.Window.{between, nextOpen, openLabel}
 use Rattle.maps.specs.Cut.{logicNode}
 use Rattle.maps.specs.WellFormed.{WellFormed}
 use Rattle.maps.proofs.Member.{All-of, All-ids, All-get}
-use Rattle.maps.proofs.Planned.{delays, operands-below}
-use Rattle.rows.specs.Table.{kindAt, delayIn, countIn, operandIn}
+use Rattle.maps.proofs.Planned.{delays, operands-below, windows}
+use Rattle.maps.proofs.Windows.{next-fields}
+use Rattle.rows.specs.Table.{kindAt, delayIn, countIn, operandIn, openIn, closing}
 use Rattle.rows.specs.declared.Header as R
 use Rattle.rows.proofs.Tables.{kind-tabled}
 use Rattle.relax.specs.Guard.{Forced}
@@ -23,11 +25,12 @@ use Rattle.maps.specs.Legal.{arrives}
 use Rattle.relax.specs.Settle.{By, Settles, Pass}
 use Rattle.relax.proofs.Closed.{Closed, well-closed}
 use Rattle.relax.proofs.Forced.{forced-operand}
-use Rattle.relax.proofs.Passes.{base-forced, base-level, settles-from, settles-input, arrives-level}
-use Rattle.bound.specs.Lookup.{labelIn, arrivalIn, Beside}
+use Rattle.relax.proofs.Passes.{base-forced, base-level, base-step, settles-open, settles-input, arrives-level}
+use Rattle.bound.specs.Lookup.{labelIn, arrivalIn, Beside, stepLimit}
 use Rattle.bound.specs.Bound.{Latest}
 use Rattle.bound.specs.Going.{Given, Keeps, AllKept, Going, Based}
-use Rattle.bound.proofs.Safety.{node-in, latency-is, clock-is, delay-is}
+use Rattle.bound.proofs.Safety.{node-in, latency-is, clock-is, delay-is, graph-falls, soon-all}
+use Rattle.bound.proofs.Arriving.{arrival-small}
 use Rattle.level.specs.Carry.{Placed}
 use Rattle.level.proofs.CutRows.{count-beside, leaf-beside}
 
@@ -105,13 +108,44 @@ module _ {S : Sheet} {graph differences : List ℕ} {limits : R.Header} {first n
         subst (Settles S (labelIn steps levels) v) (sym (based .base))
         (settles-input S closed (delays S (g .well)) (labelIn steps levels) v inside p (based .step) (based .asks) e)
 
-    -- a box: the latest of its base label and its operands' arrivals
+    -- the latest of a box's base label and its operands' arrivals leaves room for a period and what lies before a window in it
+    pub latest-room : {r : Label} → Latest graph steps levels v (limits .top) (countIn graph v) a r
+        → (0 < limits .period) × (r .step + limits .period + openIn graph v ≤ 4294967295)
+    latest-room {r} latest =
+        let w = windows S (g .well) v in
+        (omega (arith, g .period, g .well .period .least), omega (arith, g .period, g .well .period .most, g .tabled .opens v (node-in g v l .1), w .some, w .within, small (latest .one)))
+      where
+        small : (r ≡ a) ⊎ ((j : ℕ) × (j < countIn graph v) × (r ≡ arrivalIn graph steps levels (limits .top) (delayIn graph v) (operandIn graph v j))) → r .step ≤ stepLimit
+        small (inl e) =
+            omega (
+              arith,
+              ap (λ (c : Label). c .step) (e ∙ based .base),
+              base-step S closed (delays S (g .well)) (labelIn steps levels) v inside p (based .step) (based .asks),
+              based .fits,
+            )
+        small (inr w) =
+            let f = graph-falls g .falls v (w .0) (node-in g v l .1) (w .1) in
+            omega (
+              arith,
+              ap (λ (c : Label). c .step) (w .2),
+              arrival-small graph steps levels (limits .top) (delayIn graph v) (operandIn graph v (w .0)) (soon-all g (going .timed) (operandIn graph v (w .0)) (omega arith)),
+            )
+
+    -- the window in the table is the node's
+    opened-is : (r : Label) → openLabel (limits .period) (between 0 (openIn graph v) (closing graph (limits .period) v)) (delayIn graph v) r
+        ≡ openLabel (S .period) (window S v) (node S v .delay) r
+    opened-is r =
+        let t = node-in g v l .1 in
+        rw (g .period, delay-is g v l, next-fields (S .period) 0 (window S v) (r .step) (g .tabled .opens v t) (g .tabled .closes v t))
+
+    -- a box: the latest of its base label and its operands' arrivals, or its delay in the next open step
     pub settles-latest : {r : Label} (lat q : ℕ) → node S v .kind ≡ box lat q → Latest graph steps levels v (limits .top) (countIn graph v) a r
-        → Settles S (labelIn steps levels) v r
+        → Settles S (labelIn steps levels) v (openLabel (limits .period) (between 0 (openIn graph v) (closing graph (limits .period) v)) (delayIn graph v) r)
     settles-latest {r} lat q e latest =
         let b = bound (latest .one) in
-        settles-from S closed (delays S (g .well)) (labelIn steps levels) v inside p (based .step) (based .asks) r
-        (subst (λ (c : Label). c ≼ r) (based .base) (latest .from)) (b .0) (b .1) (b .2) (subst (By S (labelIn steps levels) v r) (sym e) all)
+        subst (Settles S (labelIn steps levels) v) (sym (opened-is r))
+        (settles-open S closed (delays S (g .well)) (labelIn steps levels) v inside p (based .step) (based .asks) r
+        (subst (λ (c : Label). c ≼ r) (based .base) (latest .from)) (b .0) (b .1) (b .2) (subst (By S (labelIn steps levels) v r) (sym e) all))
       where
         Bound : Label → Type 0
         Bound c = Forced S (labelIn steps levels) v c × (node S v .delay ≤ c .level) × (c .level ≤ S .top)

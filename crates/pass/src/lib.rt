@@ -11,6 +11,7 @@ use bound::Levels;
 use bound::Steps;
 use bound::base_label;
 use bound::latest_arrival;
+use bound::open_label;
 use bound::place_label;
 use bound::step_of;
 use level::Cuts;
@@ -54,7 +55,10 @@ pub fn node_label(
     match kind {
         Kind::Logic => table_label(graph, steps, levels, kept, limits, v, base),
         Kind::Input => base,
-        Kind::Box { .. } => latest_arrival(graph, steps, levels, v, Level(limits.top), base),
+        Kind::Box { .. } => {
+            let latest = latest_arrival(graph, steps, levels, v, Level(limits.top), base);
+            open_label(graph, v, limits.period, latest)
+        }
     }
 }
 

@@ -1,6 +1,6 @@
 -- The code's tables of field ranges, against document 01's.
 use Prim.Native.Nat.{ℕ, zero, suc, min}
-use Rattle.maps.specs.Limits.{Range, range, leavesRange, topRange, horizonRange, sizeRange, countRange, kindRange, markRange, idRange, weightRange, operandsMost, latencyMost}
+use Rattle.maps.specs.Limits.{Range, range, leavesRange, topRange, horizonRange, sizeRange, countRange, kindRange, markRange, idRange, weightRange, periodRange, windowsRange, fromRange, toRange, operandsMost, latencyMost}
 use Rattle.ranges.specs.declared.Span.{Span}
 use Rattle.ranges.specs.declared.Ranges.{Ranges}
 use Rattle.ranges.specs.declared.Field.{Field}
@@ -12,7 +12,8 @@ spanOf r = record { low = r .low; high = r .high }
 abbrev pub spanMeant : Span → Range
 spanMeant s = range (s .low) (s .high)
 
--- the range of a field that every node, or the header, has alike; the ids are those of a sheet with as many nodes as can be
+-- the range of a field that every node, the header or every window has alike; ids and counts of windows are those of a sheet with as many nodes as
+-- can be, from and to those of the greatest P
 abbrev pub fieldRange : Field → Range
 fieldRange Is.Leaves = leavesRange
 fieldRange Is.Top = topRange
@@ -23,6 +24,10 @@ fieldRange Is.Kind = kindRange
 fieldRange Is.Mark = markRange
 fieldRange Is.Id = idRange (sizeRange .high)
 fieldRange Is.Weight = weightRange
+fieldRange Is.Period = periodRange
+fieldRange Is.Windows = windowsRange (sizeRange .high)
+fieldRange Is.From = fromRange (periodRange .high)
+fieldRange Is.To = toRange (periodRange .high) 0
 
 abbrev row : (delay latency clock operands : Range) → Ranges
 row d l c o = record { delay = spanOf d; latency = spanOf l; clock = spanOf c; operands = spanOf o }

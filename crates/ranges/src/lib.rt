@@ -1,7 +1,7 @@
 // The ranges of the sheet's fields, each once: those of every field that is read alike in each node, and document 01's table by kind. Whoever
 // reads or writes a sheet takes them from here.
 ghost use mathlib.Core.Path.{_≡_};
-ghost use Prim.Native.Nat.{min};
+ghost use Prim.Native.Nat.{min, max};
 ghost use Rattle.ranges.specs.Ranges.{kindRanges, spanOf, clockMeant, fieldRange};
 
 // The values from low to high.
@@ -40,7 +40,8 @@ const KIND_RANGES: [Ranges; 3] = [
     },
 ];
 
-// The fields whose range does not depend on a kind: K, T, H, n, m, a node's kind and mark, an id of a difference (also below n) and its w.
+// The fields whose range does not depend on a kind: K, T, H, n, m, a node's kind and mark, an id (also below n), the w of a difference; P, how many
+// entries of windows there are (also at most n), and an entry's from (also below P) and to (also above from and at most P).
 pub enum Field {
     Leaves,
     Top,
@@ -51,10 +52,14 @@ pub enum Field {
     Mark,
     Id,
     Weight,
+    Period,
+    Windows,
+    From,
+    To,
 }
 
 // In the order of the fields; w by its code.
-const FIELD_RANGES: [Span; 9] = [
+const FIELD_RANGES: [Span; 13] = [
     Span { low: 2, high: 6 },
     Span { low: 1, high: 64 },
     Span {
@@ -70,6 +75,10 @@ const FIELD_RANGES: [Span; 9] = [
         low: 0,
         high: 131070,
     },
+    Span { low: 1, high: 64 },
+    Span { low: 0, high: 256 },
+    Span { low: 0, high: 63 },
+    Span { low: 1, high: 64 },
 ];
 
 // The ranges of a kind, by its code in the sheet; every code from 2 on is a box's.
@@ -99,6 +108,10 @@ pub fn range_of(field: Field) -> Span
         Field::Mark => FIELD_RANGES[6],
         Field::Id => FIELD_RANGES[7],
         Field::Weight => FIELD_RANGES[8],
+        Field::Period => FIELD_RANGES[9],
+        Field::Windows => FIELD_RANGES[10],
+        Field::From => FIELD_RANGES[11],
+        Field::To => FIELD_RANGES[12],
     }
 }
 
@@ -124,6 +137,19 @@ impl Span {
             return Span {
                 low: self.low,
                 high: most,
+            };
+        }
+        self
+    }
+
+    // The values that are also at least `least`.
+    pub fn at_least(self, least: u32) -> Span
+        ensures { λ r. ⌜ (r .low ≡ max least (self .low)) × (r .high ≡ self .high) ⌝ }
+    {
+        if self.low < least {
+            return Span {
+                low: least,
+                high: self.high,
             };
         }
         self

@@ -1,4 +1,5 @@
 pub mod Cells
 pub mod StoredRows
 pub mod Stores
+pub mod StoredWindows
 pub mod Tables

@@ -1,10 +1,14 @@
 -- Laws of storing numbers one after the other.
 use Prim.Native.Nat.{ℕ, _+_}
-use mathlib.Core.Path.{_≡_}
+use mathlib.Core.Path.{_≡_, refl}
 use mathlib.Core.List.{List, [], _∷_}
 use native.Mathlib.Omega.{arith}
 use lib.ListN.{set}
 use Rattle.rows.specs.Table.{storeFrom}
+
+pub store-two : (g : List ℕ) (p a b : ℕ) → set (set g p a) (p + 1) b ≡ storeFrom g p (a ∷ b ∷ [])
+unfolding storeFrom
+store-two g p a b = refl
 
 pub store-four : (g : List ℕ) (p a b c d : ℕ) → set (set (set (set g p a) (p + 1) b) (p + 2) c) (p + 3) d ≡ storeFrom g p (a ∷ b ∷ c ∷ d ∷ [])
 unfolding storeFrom

@@ -9,15 +9,16 @@ use lib.Dec.{eqb, ltb}
 use lib.ListN.{length, getD, List·getD-eq-default}
 use borrow.Author.Tests.{eqb-true, ne-eqb, ltb-true, ltb-false}
 use Rattle.maps.specs.Lists.{All}
-use Rattle.maps.specs.Sheet.{Sheet, Kind, input, logic, box, isLogic, latencyOf, clockToQOf, Node, noNode, node, size}
+use Rattle.maps.specs.Sheet.{Sheet, Kind, input, logic, box, isLogic, latencyOf, clockToQOf, Node, noNode, Window, boxIn, node, size, window}
 use Rattle.maps.specs.Read.{kindOf}
 use Rattle.maps.specs.Limits.{operandsMost, rangesOf}
 use Rattle.maps.specs.WellFormed.{Within, codeOf, WellNode, WellFormed}
 use Rattle.maps.proofs.Member.{All-ids, All-get, everywhere}
 use Rattle.maps.proofs.Planned.{operands-below}
 use Rattle.maps.proofs.RecordLaws.{mark-again}
-use Rattle.rows.specs.Table.{nodeStride, differenceStride, nodesWide, differencesWide, nodeRow, differenceRow, noDifference, graphOf, differencesOf, kindAt, markIn, Tabled, Falling, Listed}
-use Rattle.rows.proofs.StoredRows.{stored-length, stored-at, stored-past}
+use Rattle.rows.specs.Table.{nodeStride, differenceStride, nodesWide, differencesWide, nodeRow, differenceRow, noDifference, nodesOf, graphOf, differencesOf, kindAt, markIn, openIn, closeIn, closing, Tabled, Falling, Listed}
+use Rattle.rows.proofs.StoredRows.{stored-length, stored-at, stored-gap, stored-past}
+use Rattle.rows.proofs.StoredWindows.{windows-length, windows-beside, window-stored}
 
 -- no node has more operands than the most
 few : (top own : ℕ) (v : Node) → WellNode top own v → length (v .operands) ≤ operandsMost
@@ -45,20 +46,51 @@ module _ (S : Sheet) (well : WellFormed S) where
   blank (suc (suc (suc (suc (suc (suc j)))))) = refl
 
   -- the number j of node v's row
-  cell : (v j : ℕ) → j < length (nodeRow (node S v)) → getD (graphOf S) (v * nodeStride + j) 0 ≡ getD (nodeRow (node S v)) j 0
-  unfolding graphOf
-  cell v j l = go (ltb v (size S)) refl
+  node-cell : (v j : ℕ) → j < length (nodeRow (node S v)) → getD (nodesOf S) (v * nodeStride + j) 0 ≡ getD (nodeRow (node S v)) j 0
+  unfolding nodesOf
+  node-cell v j l = go (ltb v (size S)) refl
     where
-      go : (b : Bool) → ltb v (size S) ≡ b → getD (graphOf S) (v * nodeStride + j) 0 ≡ getD (nodeRow (node S v)) j 0
+      go : (b : Bool) → ltb v (size S) ≡ b → getD (nodesOf S) (v * nodeStride + j) 0 ≡ getD (nodeRow (node S v)) j 0
       go true e = stored-at nodeRow nodeStride nodesWide (S .nodes) noNode short room v j (ltb-true _ _ e) l
       go false e =
           stored-past nodeRow nodeStride nodesWide (S .nodes) noNode short room (v * nodeStride + j) (omega (arith, ltb-false))
           ∙ sym (ap (λ (x : Node). getD (nodeRow x) j 0) (List·getD-eq-default (S .nodes) noNode (ltb-false _ _ e)) ∙ blank j)
 
+  row-short : (v : ℕ) → length (nodeRow (node S v)) ≤ 12
+  row-short v = go (ltb v (size S)) refl
+    where
+      go : (b : Bool) → ltb v (size S) ≡ b → length (nodeRow (node S v)) ≤ 12
+      go true e = omega (arith, few (S .top) v (node S v) (well .nodes v (ltb-true _ _ e)))
+      go false e = omega (arith, ap (λ (x : Node). length (nodeRow x)) (List·getD-eq-default (S .nodes) noNode (ltb-false _ _ e)))
+
+  nodes-wide : length (nodesOf S) ≡ nodesWide
+  unfolding nodesOf
+  nodes-wide = stored-length nodeRow nodeStride nodesWide (S .nodes) noNode short room
+
+  cell : (v j : ℕ) → j < length (nodeRow (node S v)) → getD (graphOf S) (v * nodeStride + j) 0 ≡ getD (nodeRow (node S v)) j 0
+  unfolding graphOf
+  cell v j l = windows-beside (nodesOf S) (S .windows) v j (omega (arith, row-short v)) ∙ node-cell v j l
+
+  -- before its windows the table has 0 in their columns
+  no-window : (v j : ℕ) → 12 ≤ j → j < nodeStride → getD (nodesOf S) (v * nodeStride + j) 0 ≡ 0
+  unfolding nodesOf
+  no-window v j l h = go (ltb v (size S)) refl
+    where
+      go : (b : Bool) → ltb v (size S) ≡ b → getD (nodesOf S) (v * nodeStride + j) 0 ≡ 0
+      go true e = stored-gap nodeRow nodeStride nodesWide (S .nodes) noNode short room v j (ltb-true _ _ e) (omega (arith, row-short v)) h
+      go false e = stored-past nodeRow nodeStride nodesWide (S .nodes) noNode short room (v * nodeStride + j) (omega (arith, ltb-false))
+
+  windowed : (v : ℕ) → record { id = v; from = openIn (graphOf S) v; to = closing (graphOf S) (S .period) v } ≡ window S v
+  unfolding graphOf
+  windowed v =
+      window-stored (size S) (boxIn (S .nodes)) (S .period) (well .size .most) (nodesOf S) (S .windows) v nodes-wide (well .windows) (well .rising)
+      (no-window v 12 (omega arith) (omega arith))
+      (subst (λ (q : ℕ). getD (nodesOf S) q 0 ≡ 0) (omega arith) (no-window v 13 (omega arith) (omega arith)))
+
   pub tabled : Tabled S (graphOf S)
   tabled =
       record {
-        wide = unfold graphOf in stored-length nodeRow nodeStride nodesWide (S .nodes) noNode short room;
+        wide = unfold graphOf in windows-length (nodesOf S) (S .windows) ∙ nodes-wide;
         kinds = λ v l. rw (← add-zero (v * nodeStride)) (cell v 0 (omega arith));
         marks = λ v l. cell v 1 (omega arith);
         delays = λ v l. cell v 2 (omega arith);
@@ -66,6 +98,8 @@ module _ (S : Sheet) (well : WellFormed S) where
         clocks = λ v l. cell v 4 (omega arith);
         counts = λ v l. cell v 5 (omega arith);
         operands = λ v j l m. subst (λ (q : ℕ). getD (graphOf S) q 0 ≡ getD (node S v .operands) j 0) (omega arith) (cell v (suc (suc (suc (suc (suc (suc j)))))) (omega arith));
+        opens = λ v l. ap (λ (w : Window). w .from) (windowed v);
+        closes = λ v l. ap (λ (w : Window). w .to) (windowed v);
       }
 
   differences-short : All (λ d. length (differenceRow d) ≤ differenceStride) (S .differences)

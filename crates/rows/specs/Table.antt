@@ -1,10 +1,11 @@
--- The two tables that a sheet is read into: a row of sixteen numbers for a node and of four for a difference, and 0 elsewhere.
+-- The two tables that a sheet is read into: a row of sixteen numbers for a node, its window among them, and of four for a difference, and 0 elsewhere.
 use Prim.Native.Nat.{ℕ, _+_, _*_, _≤_, _<_}
 use mathlib.Core.Path.{_≡_}
 use mathlib.Core.Bool.{Bool, cond}
 use mathlib.Core.List.{List, [], _∷_, map}
+use lib.Dec.{eqb}
 use lib.ListN.{length, getD, set, replicate}
-use Rattle.maps.specs.Sheet.{Sheet, Kind, Node, Difference, size, node, latency, latencyOf, clockToQ, clockToQOf}
+use Rattle.maps.specs.Sheet.{Sheet, Kind, Node, Difference, Window, size, node, window, latency, latencyOf, clockToQ, clockToQOf}
 use Rattle.maps.specs.Read.{kindOf, Head, Header}
 use Rattle.maps.specs.WellFormed.{codeOf}
 use Rattle.maps.specs.Limits.{operandsMost}
@@ -33,6 +34,9 @@ countColumn = 5
 
 abbrev pub operandColumn : ℕ
 operandColumn = 6
+
+abbrev pub windowColumn : ℕ
+windowColumn = 12
 
 -- and in a difference's, its u first
 abbrev pub toColumn : ℕ
@@ -84,6 +88,19 @@ nodePlace v = v * nodeStride
 abbrev pub operandPlace : ℕ → ℕ
 operandPlace v = nodePlace v + operandColumn
 
+-- where its window stands
+abbrev pub windowPlace : ℕ → ℕ
+windowPlace v = nodePlace v + windowColumn
+
+abbrev pub windowRow : (from to : ℕ) → List ℕ
+windowRow f t = f ∷ t ∷ []
+
+-- the windows, each in the row of its node
+unfoldable pub storeWindows : (table : List ℕ) → List Window → List ℕ
+unfolding storeFrom
+storeWindows g [] = g
+storeWindows g (w ∷ ws) = storeWindows (storeFrom g (windowPlace (w .id)) (windowRow (w .from) (w .to))) ws
+
 abbrev pub differencePlace : ℕ → ℕ
 differencePlace i = i * differenceStride
 
@@ -94,10 +111,14 @@ noNodes = replicate nodesWide 0
 abbrev pub noDifferences : List ℕ
 noDifferences = replicate differencesWide 0
 
--- the table of a sheet's nodes, and that of its differences
-unfoldable pub graphOf : Sheet → List ℕ
+-- the table of a sheet's nodes, first without its windows, and that of its differences
+unfoldable pub nodesOf : Sheet → List ℕ
 unfolding storeRows
-graphOf S = storeRows nodePlace noNodes 0 (map nodeRow (S .nodes))
+nodesOf S = storeRows nodePlace noNodes 0 (map nodeRow (S .nodes))
+
+unfoldable pub graphOf : Sheet → List ℕ
+unfolding nodesOf storeWindows
+graphOf S = storeWindows (nodesOf S) (S .windows)
 
 unfoldable pub differencesOf : Sheet → List ℕ
 unfolding storeRows
@@ -123,12 +144,23 @@ module _ (g : List ℕ) (v : ℕ) where
   abbrev pub countIn : ℕ
   countIn = getD g (nodePlace v + countColumn) 0
 
+  -- from and to of the window, 0 and 0 where there is none
+  abbrev pub openIn : ℕ
+  openIn = getD g (windowPlace v) 0
+
+  abbrev pub closeIn : ℕ
+  closeIn = getD g (windowPlace v + 1) 0
+
   -- the kind, from its code, the latency and q
   abbrev pub kindAt : Kind
   kindAt = kindOf kindIn latencyIn clockIn
 
   abbrev pub operandIn : ℕ → ℕ
   operandIn j = getD g (operandPlace v + j) 0
+
+-- where the window closes: at the period's end where there is none
+abbrev pub closing : (g : List ℕ) → (period v : ℕ) → ℕ
+closing g p v = cond (eqb (closeIn g v) 0) p (closeIn g v)
 
 -- the table g holds the nodes of S: at every id below 256 the node's numbers, and 0 where the sheet has no node
 pub record Tabled (S : Sheet) (g : List ℕ) : Type 0 where
@@ -140,6 +172,8 @@ pub record Tabled (S : Sheet) (g : List ℕ) : Type 0 where
   pub clocks : (v : ℕ) → v < 256 → clockIn g v ≡ clockToQ S v
   pub counts : (v : ℕ) → v < 256 → countIn g v ≡ length (node S v .operands)
   pub operands : (v j : ℕ) → v < 256 → j < length (node S v .operands) → operandIn g v j ≡ getD (node S v .operands) j 0
+  pub opens : (v : ℕ) → v < 256 → openIn g v ≡ window S v .from
+  pub closes : (v : ℕ) → v < 256 → closing g (S .period) v ≡ window S v .to
 
 -- what stands in the table of differences at difference i
 module _ (d : List ℕ) (i : ℕ) where

@@ -9,22 +9,24 @@ ghost use Rattle.maps.specs.WellFormed.{codeOf};
 ghost use Rattle.maps.specs.Read.{kindOf};
 ghost use Rattle.types.specs.Code.{kindMeant};
 ghost use Rattle.rows.specs.Code.{headMeant, differenceMeant};
-ghost use Rattle.rows.specs.Table.{markOf, storeFrom, headRow, differenceRow, nodePlace, operandPlace, differencePlace, kindAt, markIn, delayIn, latencyIn, clockIn, countIn, operandIn, fromIn, toIn, plusIn, minusIn};
+ghost use Rattle.rows.specs.Table.{markOf, storeFrom, headRow, differenceRow, windowRow, nodePlace, operandPlace, windowPlace, differencePlace, openIn, closing, kindAt, markIn, delayIn, latencyIn, clockIn, countIn, operandIn, fromIn, toIn, plusIn, minusIn};
 use types::Kind;
 use types::Level;
 use types::Node;
 use types::Step;
 
-// K, T, H, n, m.
+// K, T, H, n, m; P and the count of entries.
 pub struct Header {
     pub leaves: u32,
     pub top: u32,
     pub horizon: u32,
     pub nodes: u32,
     pub differences: u32,
+    pub period: u32,
+    pub windows: u32,
 }
 
-// A row for each of 256 nodes: kind, mark, d, lat, q, operand count, the operands, and numbers that are 0.
+// A row for each of 256 nodes: kind, mark, d, lat, q, operand count, the operands, and from and to of its window, 0 and 0 where it has none.
 pub type Graph = [u32; 4096];
 
 // A row for each of 1,024 differences: from, to, plus, minus.
@@ -45,6 +47,8 @@ const COUNT: usize = 5;
 
 const OPERANDS: usize = 6;
 
+const WINDOW: usize = 12;
+
 // The same of a difference; its u stands first.
 const DIFFERENCE: usize = 4;
 
@@ -60,6 +64,12 @@ pub struct Difference {
     pub to: u32,
     pub plus: u32,
     pub minus: u32,
+}
+
+// The remainders of steps by the period in which a node may start: from `from` on and below `to`.
+pub struct Window {
+    pub from: u32,
+    pub to: u32,
 }
 
 // The kind that a code in the sheet stands for; every code from 2 on is a box's.
@@ -139,6 +149,16 @@ pub fn store_operand(graph: &mut [u32], v: u32, j: u32, id: u32)
     graph[base + OPERANDS + j as usize] = id;
 }
 
+// Stores the window of node v.
+pub fn store_window(graph: &mut [u32], v: u32, window: Window)
+    requires { ⌜ nodePlace (v + 1) ≤ length (now graph) ⌝ }
+    ensures { λ _. ⌜ now (graph .exit) ≡ storeFrom (now (graph .entry)) (windowPlace v) (windowRow (window .from) (window .to)) ⌝ }
+{
+    let base = v as usize * NODE + WINDOW;
+    graph[base] = window.from;
+    graph[base + 1] = window.to;
+}
+
 // Stores the difference i.
 pub fn store_difference(table: &mut [u32], i: u32, difference: Difference)
     requires { ⌜ differencePlace (i + 1) ≤ length (now table) ⌝ }
@@ -206,6 +226,20 @@ pub fn operand_in(graph: &Graph, v: u32, j: u32) -> u32
     ensures { λ r. ⌜ r ≡ operandIn (now (graph .entry)) v j ⌝ }
 {
     graph[v as usize * NODE + OPERANDS + j as usize]
+}
+
+// The window of node v; where it has no entry, the whole period.
+pub fn window_in(graph: &Graph, v: u32, period: u32) -> Window
+    requires { ⌜ v < 256 ⌝ }
+    ensures { λ r. ⌜ (r .from ≡ openIn (now (graph .entry)) v) × (r .to ≡ closing (now (graph .entry)) period v) ⌝ }
+{
+    let base = v as usize * NODE + WINDOW;
+    let from = graph[base];
+    let to = graph[base + 1];
+    if to == 0 {
+        return Window { from, to: period };
+    }
+    Window { from, to }
 }
 
 // The difference i.

@@ -2,7 +2,7 @@
 use Prim.Native.Nat.{ℕ, zero, suc, _+_, _-_, _*_, _≤_, _<_}
 use mathlib.Core.Path.{_≡_, refl, sym, subst, ap, _∙_}
 use mathlib.Core.Bool.{Bool, true, false}
-use mathlib.Core.List.{List, []}
+use mathlib.Core.List.{List, [], _∷_}
 use native.Mathlib.Nat.{not-suc-le-zero}
 use native.Mathlib.Omega.{arith}
 use native.Mathlib.Decide.{ℕ-discrete}
@@ -11,11 +11,11 @@ use lib.ListN.{length, getD, set, replicate, length-set, length-replicate}
 use lib.Seq.{getD-set-same, getD-set-other}
 use borrow.Author.Count.{below-more}
 use borrow.Author.Tests.{leb-true, leb-false}
-use Rattle.maps.specs.Limits.{weightMost}
+use Rattle.maps.specs.Limits.{periodRange, weightMost}
 use Rattle.maps.specs.Label.{Label, label, _≼_}
 use Rattle.maps.specs.Lists.{All, below}
 use Rattle.maps.specs.WellFormed.{WellDifference}
-use Rattle.maps.specs.Sheet.{Sheet, Difference, node, size, latency}
+use Rattle.maps.specs.Sheet.{Sheet, Difference, Window, node, size, latency}
 use Rattle.maps.specs.Cut.{reads}
 use Rattle.maps.specs.Legal.{Least, NoneLegal}
 use Rattle.maps.specs.Least.{at, leastWithin, late, least}
@@ -31,11 +31,13 @@ use Rattle.rows.proofs.Cells.{filled-more}
 use Rattle.relax.specs.Guard.{Kept}
 use Rattle.relax.specs.Settle.{Pass, Passing}
 use Rattle.relax.specs.Sweep.{Sweeping}
-use Rattle.relax.specs.Hold.{Held, at-zero, by-operand, by-difference}
+use Rattle.relax.specs.Hold as H
+use Rattle.relax.specs.Hold.{shiftOf, Held, on-ground, by-operand, by-difference}
 use Rattle.relax.proofs.Closed.{Closed, well-closed, inside}
 use Rattle.relax.proofs.Guard.{legal-node, legal-diffs, ok-legal}
 use Rattle.relax.proofs.Forced.{ok-same}
-use Rattle.relax.proofs.Held.{climbs, well-climb, held-sum}
+use Rattle.relax.proofs.Held.{climbs, well-climbs, held-sum}
+use Rattle.relax.proofs.Afloat.{shift-of}
 use Rattle.relax.proofs.Passes.{pass-start, pass-again, pass-least, pass-floats, stepsOf}
 use Rattle.relax.proofs.Loop.{passing-pass, passing-grows}
 use Rattle.relax.proofs.Sweeps.{sweep-moves}
@@ -44,14 +46,14 @@ use Rattle.bound.specs.Bound.{HoldsAt}
 use Rattle.bound.specs.Going.{Given, AllKept, Timed, Going}
 use Rattle.bound.proofs.Asking.{linked-heeding, linked-heeded}
 use Rattle.bound.proofs.Safety.{node-in, latency-is, delay-is, graph-falls, difference-in, targets, kept-at, holds-at}
-use Rattle.hold.specs.Mark.{HeldIn, zero-in, operand-in, target-in}
+use Rattle.hold.specs.Mark.{HeldIn, ground-in, operand-in, target-in}
 use Rattle.hold.proofs.HoldMarks.{not-both}
 use Rattle.pass.specs.Turn.{Passed}
 use Rattle.pass.specs.declared.Course.{Course}
 use Rattle.schedule.specs.declared.labels.Turn.{Turn}
 use Rattle.schedule.specs.declared.labels.Turn.the-variants as Is
 use Rattle.sweep.specs.Sweep.{AllHold, SomeFails, Sweepable, SweepEnds}
-use Rattle.schedule.specs.Round.{First, TurnEnds, was-late, was-stopped, was-last, goes-on, Heeds, Relaxed, stepsIn, climbsIn, heldMost, roundsMost}
+use Rattle.schedule.specs.Round.{First, TurnEnds, was-late, was-stopped, was-last, goes-on, Heeds, Relaxed, stepsIn, shiftFor, shiftIn, climbMost, climbsIn, heldMost, roundsMost}
 
 -- the first labels, one node after the other: none yet, and one more
 pub first-none : {graph steps levels : List ℕ} {horizon : ℕ} → steps ≡ replicate 256 0 → levels ≡ replicate 256 0 → First graph steps levels 0 horizon
@@ -80,6 +82,11 @@ first-more {graph} {steps} {levels} v s d low g ends z delay e f =
     still u (yes q) = ap (λ (i : ℕ). getD (set steps v s) i 0) q ∙ getD-set-same steps v s 0 (omega (arith, g .steps-wide)) ∙ z
     still u (no n) = getD-set-other steps v u s 0 n ∙ g .steps-zero u
 
+-- the shift where there are windows
+pub shift-some : (p k : ℕ) → (k ≡ 0 → ⊥) → p ≡ shiftFor p k
+shift-some p zero f = absurd (f refl)
+shift-some p (suc k) f = refl
+
 -- the sum of the steps, as a sum
 steps-sum : (n : ℕ) (steps : List ℕ) → stepsIn n steps ≡ total (λ v. getD steps v 0) n
 unfolding stepsIn
@@ -87,12 +94,16 @@ steps-sum zero steps = refl
 steps-sum (suc n) steps = ap (λ (h : ℕ). h + getD steps n 0) (steps-sum n steps)
 
 -- so are the climbs
-climbs-sum : (n : ℕ) → climbsIn n ≡ climbs weightMost n
+climbs-sum : (n : ℕ) → climbsIn n ≡ climbs climbMost (periodRange .high) n
 unfolding climbsIn
 climbs-sum zero = refl
-climbs-sum (suc n) = ap (λ (h : ℕ). h + n * weightMost) (climbs-sum n)
+climbs-sum (suc n) = ap (λ (h : ℕ). h + (n * climbMost + (periodRange .high - 1))) (climbs-sum n)
 
-climbs-greatest : climbs weightMost 256 ≡ 2139062400
+-- a smaller shift asks no more
+climbs-mono : (n p : ℕ) → p ≤ periodRange .high → climbs climbMost p n ≤ climbs climbMost (periodRange .high) n
+climbs-mono n p l = total-mono (λ k. k * climbMost + (p - 1)) (λ k. k * climbMost + (periodRange .high - 1)) n (λ k h. omega arith)
+
+climbs-greatest : climbs climbMost (periodRange .high) 256 ≡ 2141167488
 climbs-greatest = refl
 
 module _ {S : Sheet} {graph differences : List ℕ} {limits : R.Header} (g : Given S graph differences limits) where
@@ -102,10 +113,30 @@ module _ {S : Sheet} {graph differences : List ℕ} {limits : R.Header} (g : Giv
   steps-is : (steps levels : List ℕ) → stepsIn (limits .nodes) steps ≡ stepsOf S (labelIn steps levels)
   steps-is steps levels = ap (λ (n : ℕ). stepsIn n steps) (g .nodes) ∙ steps-sum (size S) steps
 
-  -- what held nodes can have together is a number of the code's, twice over: 0 + 1 + .. + 255 times 65,535 is below 2^31
+  -- the shift of the tables is the sheet's
+  shift-is : shiftIn limits ≡ shiftOf S
+  shift-is = go (S .windows) (g .windows)
+    where
+      go : (ws : List Window) → limits .windows ≡ length ws → shiftIn limits ≡ H.shiftIn (S .period) ws
+      go [] e = rw e
+      go (w ∷ ws) e = rw (e, g .period)
+
+  pub shift-small : shiftIn limits ≤ periodRange .high
+  shift-small = go (limits .windows)
+    where
+      go : (k : ℕ) → shiftFor (limits .period) k ≤ periodRange .high
+      go zero = omega arith
+      go (suc k) = omega (arith, g .period, g .well .period .most)
+
+  -- what held nodes can have together is a number of the code's, twice over: 0 + 1 + .. + 255 times 65,599, and 256 times 63, is below 2^31
   most-fits : heldMost limits < 2147483647
   most-fits =
-      omega (arith, climbs-sum (limits .nodes), total-longer (λ k. k * weightMost) (limits .nodes) 256 (omega (arith, g .nodes, g .well .size .most)), climbs-greatest)
+      omega (
+        arith,
+        climbs-sum (limits .nodes),
+        total-longer (λ k. k * climbMost + (periodRange .high - 1)) (limits .nodes) 256 (omega (arith, g .nodes, g .well .size .most)),
+        climbs-greatest,
+      )
 
   -- the start
   pub first-going : {first next kept steps levels : List ℕ} → Linked differences (limits .differences) first next → AllKept S kept
@@ -135,10 +166,10 @@ module _ {S : Sheet} {graph differences : List ℕ} {limits : R.Header} (g : Giv
   -- the held set over the tables is the sheet's
   module _ (steps levels : List ℕ) where
     abbrev pub HeldAt : ℕ → Type 0
-    HeldAt v = HeldIn graph differences steps (limits .nodes) (limits .differences) v
+    HeldAt v = HeldIn graph differences steps (shiftIn limits) (limits .nodes) (limits .differences) v
 
-    pub held-in : (v : ℕ) → HeldAt v → Held S (labelIn steps levels) v
-    held-in v (zero-in u l e) = at-zero v (node-in g v l .0) e
+    pub held-in : (v : ℕ) → HeldAt v → Held S (shiftIn limits) (labelIn steps levels) v
+    held-in v (ground-in u l e) = on-ground v (node-in g v l .0) e
     held-in v (operand-in u j l h o c) =
         let w = node-in g v l in
         let k : j < length (node S v .operands) = omega (arith, g .tabled .counts v (w .1)) in
@@ -151,12 +182,12 @@ module _ {S : Sheet} {graph differences : List ℕ} {limits : R.Header} (g : Giv
         let k : i < length (S .differences) = omega (arith, g .count) in
         let from = g .listed .froms i k in
         let to = g .listed .tos i k in
-        subst (Held S (labelIn steps levels)) (sym to)
-        (by-difference (differenceAt S i) (difference-in g i l) (subst (Held S (labelIn steps levels)) from (held-in (fromIn differences i) o))
+        subst (Held S (shiftIn limits) (labelIn steps levels)) (sym to)
+        (by-difference (differenceAt S i) (difference-in g i l) (subst (Held S (shiftIn limits) (labelIn steps levels)) from (held-in (fromIn differences i) o))
         (omega (arith, ap (λ (x : ℕ). getD steps x 0) from, ap (λ (x : ℕ). getD steps x 0) to, g .listed .pluses i k, g .listed .minuses i k)))
 
     abbrev Pulls : ℕ → ℕ → Type 0
-    Pulls v u = HeldAt u → getD steps v 0 ≤ getD steps u 0 + latency S u + 1 → HeldAt v
+    Pulls v u = HeldAt u → getD steps v 0 ≤ getD steps u 0 + latency S u + shiftIn limits → HeldAt v
 
     operand : (v : ℕ) → v < size S → (j : ℕ) → j < length (node S v .operands) → Pulls v (getD (node S v .operands) j 0)
     operand v l j k p near =
@@ -169,7 +200,7 @@ module _ {S : Sheet} {graph differences : List ℕ} {limits : R.Header} (g : Giv
         (omega (arith, ap (λ (x : ℕ). getD steps x 0) e, ap (latencyIn graph) e, latency-is g u (omega arith)))
 
     abbrev Pushes : Difference → Type 0
-    Pushes d = HeldAt (d .from) → getD steps (d .to) 0 + d .minus ≤ getD steps (d .from) 0 + d .plus → HeldAt (d .to)
+    Pushes d = HeldAt (d .from) → getD steps (d .to) 0 + d .minus < getD steps (d .from) 0 + d .plus + shiftIn limits → HeldAt (d .to)
 
     target : (i : ℕ) → i < length (S .differences) → Pushes (differenceAt S i)
     target i l p near =
@@ -180,8 +211,8 @@ module _ {S : Sheet} {graph differences : List ℕ} {limits : R.Header} (g : Giv
         (target-in i (omega (arith, g .count)) (omega (arith, w .to, g .nodes)) (subst HeldAt (sym from) p)
         (omega (arith, ap (λ (x : ℕ). getD steps x 0) from, ap (λ (x : ℕ). getD steps x 0) to, g .listed .pluses i l, g .listed .minuses i l)))
 
-    pub in-held : (v : ℕ) → Held S (labelIn steps levels) v → HeldAt v
-    in-held v (at-zero u l e) = zero-in v (omega (arith, g .nodes)) e
+    pub in-held : (v : ℕ) → Held S (shiftIn limits) (labelIn steps levels) v → HeldAt v
+    in-held v (on-ground u l e) = ground-in v (omega (arith, g .nodes)) e
     in-held v (by-operand w u l r k near) =
         All-at (Pulls v) (node S v .operands) (All-ids (Pulls v) 0 (node S v .operands) (λ j h. operand v l j h)) (mem-out u (node S v .operands) r)
         (in-held u k) near
@@ -193,7 +224,8 @@ module _ {S : Sheet} {graph differences : List ℕ} {limits : R.Header} (g : Giv
     -- after a pass a node floats
     floats-none : Pass S (labelIn steps levels) (size S) → (v : ℕ) → v < limits .nodes → (HeldAt steps levels v → ⊥) → NoneLegal S (limits .horizon)
     floats-none p v l n M legal =
-        pass-floats S closed (labelIn steps levels) p v (node-in g v l .0) (λ h. n (in-held steps levels v h)) M (limits .horizon) legal
+        pass-floats S closed (shiftOf S) (shift-of S closed) (labelIn steps levels) p v (node-in g v l .0)
+        (λ h. n (in-held steps levels v (subst (λ (k : ℕ). Held S k (labelIn steps levels) v) (sym shift-is) h))) M (limits .horizon) legal
 
     -- none does: the steps are no further than held nodes can be, whatever the horizon
     held-most : ((v : ℕ) → v < limits .nodes → HeldAt steps levels v) → stepsIn (limits .nodes) steps ≤ heldMost limits
@@ -201,7 +233,8 @@ module _ {S : Sheet} {graph differences : List ℕ} {limits : R.Header} (g : Giv
         omega (
           arith,
           steps-is steps levels,
-          held-sum S closed (labelIn steps levels) weightMost (well-climb S (g .well)) (λ v l. held-in steps levels v (all v (omega (arith, g .nodes)))),
+          held-sum S closed (shiftIn limits) (labelIn steps levels) climbMost (well-climbs S (g .well) (shiftIn limits) shift-small) (λ v l. held-in steps levels v (all v (omega (arith, g .nodes)))),
+          climbs-mono (size S) (shiftIn limits) shift-small,
           climbs-sum (size S),
           ap climbsIn (g .nodes),
         )
@@ -333,7 +366,7 @@ module _ {S : Sheet} {graph differences : List ℕ} {limits : R.Header} (g : Giv
 -- A round that goes on: the labels after its pass, then the differences that are heeded, then the sweep.
 module _ {S : Sheet} {graph differences : List ℕ} {limits : R.Header} {first heeded₀ next kept steps₀ steps levels : List ℕ} {whole : Bool}
     (x : GoesOn S graph differences limits first heeded₀ next kept steps₀ steps levels whole) where
-  pub round-floats : whole ≡ true → (v : ℕ) → v < limits .nodes → (HeldIn graph differences steps (limits .nodes) (limits .differences) v → ⊥) → NoneLegal S (limits .horizon)
+  pub round-floats : whole ≡ true → (v : ℕ) → v < limits .nodes → (HeldIn graph differences steps (shiftIn limits) (limits .nodes) (limits .differences) v → ⊥) → NoneLegal S (limits .horizon)
   round-floats w = floats-none (x .going .given) steps levels (x .settled w)
 
   module _ {heeded : List ℕ} {test : Bool} (y : Heeds graph differences limits next steps heeded test) where

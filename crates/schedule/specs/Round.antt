@@ -1,10 +1,10 @@
 -- What the start, the turn after a pass, what is heeded then, and all rounds answer.
-use Prim.Native.Nat.{ℕ, suc, zero, _+_, _*_, _≤_, _<_}
+use Prim.Native.Nat.{ℕ, suc, zero, _+_, _-_, _*_, _≤_, _<_}
 use mathlib.Core.Path.{_≡_}
 use mathlib.Core.Bool.{Bool, true}
 use mathlib.Core.List.{List}
 use lib.ListN.{length, getD}
-use Rattle.maps.specs.Limits.{weightMost}
+use Rattle.maps.specs.Limits.{periodRange, weightMost}
 use Rattle.maps.specs.Sheet.{Sheet}
 use Rattle.maps.specs.Legal.{Least, NoneLegal}
 use Rattle.rows.specs.Table.{delayIn, latencyIn}
@@ -35,10 +35,22 @@ unfoldable pub stepsIn : (n : ℕ) (steps : List ℕ) → ℕ
 stepsIn zero steps = 0
 stepsIn (suc n) steps = stepsIn n steps + getD steps n 0
 
--- the most that it can be where n nodes are held, whatever the horizon: 0 + 1 + .. + (n - 1) times the greatest weight
+-- the shift of the floating-set test: the period, or 1 where there are no windows
+abbrev pub shiftFor : (period count : ℕ) → ℕ
+shiftFor p zero = 1
+shiftFor p (suc k) = p
+
+abbrev pub shiftIn : R.Header → ℕ
+shiftIn limits = shiftFor (limits .period) (limits .windows)
+
+-- the most that one node can be above another that holds it, with any shift
+abbrev pub climbMost : ℕ
+climbMost = weightMost + periodRange .high
+
+-- the most that the sum can be where n nodes are held, whatever the horizon: 0 + 1 + .. + (n - 1) such climbs, each from below the greatest shift
 unfoldable pub climbsIn : (n : ℕ) → ℕ
 climbsIn zero = 0
-climbsIn (suc n) = climbsIn n + n * weightMost
+climbsIn (suc n) = climbsIn n + (n * climbMost + (periodRange .high - 1))
 
 abbrev pub heldMost : R.Header → ℕ
 heldMost limits = climbsIn (limits .nodes)
@@ -58,13 +70,13 @@ pub data TurnEnds (differences first steps : List ℕ) (m : ℕ) : Course → Tu
 pub record Heeds (graph differences : List ℕ) (limits : R.Header) (next steps heeded : List ℕ) (test : Bool) : Type 0 where
   pub heeding : Heeding differences (limits .differences) heeded next
   pub fails : SomeFails differences heeded steps (limits .differences)
-  pub held : test ≡ true → (v : ℕ) → v < limits .nodes → HeldIn graph differences steps (limits .nodes) (limits .differences) v
+  pub held : test ≡ true → (v : ℕ) → v < limits .nodes → HeldIn graph differences steps (shiftIn limits) (limits .nodes) (limits .differences) v
 
 -- the same, or the test was asked for and a node floats
 abbrev pub HeedEnds : (graph differences : List ℕ) (limits : R.Header) (next steps heeded : List ℕ) (test : Bool) → Bool → Type 0
 HeedEnds graph differences limits next steps heeded test r =
     Ends r (Heeds graph differences limits next steps heeded test)
-    ((v : ℕ) × (v < limits .nodes) × (HeldIn graph differences steps (limits .nodes) (limits .differences) v → ⊥) × (test ≡ true))
+    ((v : ℕ) × (v < limits .nodes) × (HeldIn graph differences steps (shiftIn limits) (limits .nodes) (limits .differences) v → ⊥) × (test ≡ true))
 
 -- the labels are the least legal ones, or nothing is legal within H
 abbrev pub Relaxed : (S : Sheet) (H : ℕ) (steps levels : List ℕ) → Bool → Type 0

@@ -16,7 +16,8 @@ ghost use Rattle.bound.specs.Bound.{Summed};
 ghost use Rattle.pass.specs.Turn.{Underway, Onward};
 ghost use Rattle.pass.specs.declared.Course.the-variants.{Whole};
 ghost use Rattle.sweep.specs.Sweep.{SomeFails};
-ghost use Rattle.schedule.specs.Round.{Started, TurnEnds, HeedEnds, Relaxed};
+ghost use Rattle.hold.specs.Mark.{Floats};
+ghost use Rattle.schedule.specs.Round.{shiftFor, shiftIn, Started, TurnEnds, HeedEnds, Relaxed};
 use bound::Levels;
 use bound::Steps;
 use bound::clear_labels;
@@ -134,6 +135,42 @@ pub fn turn_after(
     }
 }
 
+// The steps by which every node can move without leaving its window: the period, or 1 where no node has one.
+pub fn shift_of(limits: Header) -> u32
+    ensures { λ r. ⌜ r ≡ shiftFor (limits .period) (limits .windows) ⌝ }
+{
+    if limits.windows == 0 {
+        return 1;
+    }
+    limits.period
+}
+
+// Whether some node floats.
+pub fn some_float(
+    graph: &Graph,
+    differences: &Differences,
+    limits: Header,
+    first: &[u32; 256],
+    next: &[u32; 1024],
+    steps: &Steps,
+) -> bool
+    requires { ⌜ ((S : Sheet) × (levels : List ℕ) × Given S (now graph) (now differences) limits × Timed S (limits .horizon) (now steps) levels) ⌝ }
+    requires { ⌜ Linked (now differences) (limits .differences) (now first) (now next) ⌝ }
+    ensures { λ r. ⌜ Floats (now (graph .entry)) (now (differences .entry)) (now (steps .entry)) (shiftIn limits) (limits .nodes) (limits .differences) r ⌝ }
+{
+    let shift = shift_of(limits);
+    floats(
+        graph,
+        differences,
+        first,
+        next,
+        steps,
+        limits.nodes,
+        limits.differences,
+        shift,
+    )
+}
+
 // Which differences are heeded next; false where a test finds that a node floats. After a freeze these are the differences into nodes that have
 // moved since the freeze before; where they hold, all are.
 pub fn heed(
@@ -154,15 +191,7 @@ pub fn heed(
     ensures { λ r. ⌜ HeedEnds (now (graph .entry)) (now (differences .entry)) limits (now (next .entry)) (now (steps .entry)) (now (heeded .exit)) (mode .test) r ⌝ }
 {
     if mode.test {
-        if floats(
-            graph,
-            differences,
-            first,
-            next,
-            steps,
-            limits.nodes,
-            limits.differences,
-        ) {
+        if some_float(graph, differences, limits, first, next, steps) {
             return false;
         }
     }

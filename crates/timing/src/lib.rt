@@ -41,6 +41,8 @@ pub fn far_limits(limits: Header) -> Header
         horizon: FARTHEST,
         nodes: limits.nodes,
         differences: limits.differences,
+        period: limits.period,
+        windows: limits.windows,
     }
 }
 
@@ -61,8 +63,33 @@ pub fn in_time(graph: &Graph, steps: &Steps, n: u32, horizon: u32) -> bool
     true
 }
 
-// Writes the least legal labels of any horizon, unless there are none; whether they are within the horizon of the limits. `kept` has a fitting cut
-// of each logic node.
+// Writes the least legal labels of any horizon, unless there are none; whether they are within the horizon of the limits. There are no entries, and
+// `kept` has a fitting cut of each logic node.
+pub fn time_ever(
+    graph: &Graph,
+    differences: &Differences,
+    limits: Header,
+    kept: &mut Cuts,
+    steps: &mut Steps,
+    levels: &mut Levels,
+) -> Timing
+    requires { ⌜ ((S : Sheet) × Given S (now graph) (now differences) limits × AllKept S (now kept) × (cutless S ≡ [])) ⌝ }
+    requires { ⌜ limits .windows ≡ 0 ⌝ }
+    ensures { λ r. ⌜ ((S : Sheet) → Given S (now (graph .entry)) (now (differences .entry)) limits → AllKept S (now (kept .entry)) → cutless S ≡ []
+        → Times S (limits .horizon) (labelsIn (limits .nodes) (now (steps .exit)) (now (levels .exit))) r) ⌝ }
+{
+    let far = far_limits(limits);
+    if !least_labels(graph, differences, far, kept, steps, levels) {
+        return Timing::Never;
+    }
+    if !in_time(graph, steps, limits.nodes, limits.horizon) {
+        return Timing::Late;
+    }
+    Timing::InTime
+}
+
+// Writes the least legal labels, unless there are none: within the horizon of the limits where there are entries, otherwise of any horizon. `kept` has a
+// fitting cut of each logic node.
 pub fn time_labels(
     graph: &Graph,
     differences: &Differences,
@@ -75,11 +102,10 @@ pub fn time_labels(
     ensures { λ r. ⌜ ((S : Sheet) → Given S (now (graph .entry)) (now (differences .entry)) limits → AllKept S (now (kept .entry)) → cutless S ≡ []
         → Times S (limits .horizon) (labelsIn (limits .nodes) (now (steps .exit)) (now (levels .exit))) r) ⌝ }
 {
-    let far = far_limits(limits);
-    if !least_labels(graph, differences, far, kept, steps, levels) {
-        return Timing::Never;
+    if limits.windows == 0 {
+        return time_ever(graph, differences, limits, kept, steps, levels);
     }
-    if !in_time(graph, steps, limits.nodes, limits.horizon) {
+    if !least_labels(graph, differences, limits, kept, steps, levels) {
         return Timing::Late;
     }
     Timing::InTime

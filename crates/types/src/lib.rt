@@ -1,7 +1,8 @@
 // The types of the planner: steps, levels, labels, kinds, nodes and refusals, with the functions of labels.
 ghost use mathlib.Core.Path.{_≡_};
-ghost use Prim.Native.Nat.{_+_, min, max};
+ghost use Prim.Native.Nat.{_+_, _≤_, _<_, min, max};
 ghost use Rattle.maps.specs.Label.{label, earliest, leq, later, nextStep, plus, ready};
+ghost use Rattle.maps.specs.Window.{between, nextOpen};
 ghost use Rattle.types.specs.Code.{labelOf, fitted, numberOf, placeOf};
 
 // A clock step.
@@ -28,6 +29,26 @@ impl Step {
         } else {
             Step(4294967295)
         }
+    }
+
+    // The next open step from this one on: its remainder by the period is at least `from` and below `to`.
+    pub fn next_open(self, period: u32, from: u32, to: u32) -> Step
+        requires { ⌜ 0 < period ⌝ }
+        requires { ⌜ self .0 + period + from ≤ 4294967295 ⌝ }
+        ensures { λ r. ⌜ r .0 ≡ nextOpen period (between 0 from to) (self .0) ⌝ }
+    {
+        let s = self.0;
+        let rest = s % period;
+        if rest < from {
+            let wait = from - rest;
+            return Step(s + wait);
+        }
+        if rest < to {
+            return self;
+        }
+        let left = period - rest;
+        let cycle = s + left;
+        Step(cycle + from)
     }
 
     // The later of two steps.

@@ -17,7 +17,7 @@ put-in-requires : tie.Need-put-in-requires
 put-in-requires c κs =
     let s = c .before .before .before .before .before .before in
     let up = c .before in
-    let i = ids-right (s .args .n) (up .before .range-of .result) _ (s .pre .2) (up .before .range-of .ensures) (up .up-to .ensures) in
+    let i = ids-right (up .before .range-of .result) _ (s .args .n) (s .pre .2) (up .before .range-of .ensures) (up .up-to .ensures) in
     let row = up .before .before .difference-at .ensures in
     let most = id-bytes {x = s .args .n - 1} (omega (arith, s .pre .2)) in
     (omega (arith, i .1, s .pre .2), rw (i .1) (room-less (omega (arith, most)) (s .pre .3)))
@@ -27,7 +27,7 @@ returns c =
     let f1 = c .before .before .before .before in
     let s = f1 .before .before .before .before .before .before .before in
     let up = f1 .before .before in
-    let i = ids-right (s .args .n) (up .before .range-of .result) _ (s .pre .2) (up .before .range-of .ensures) (up .up-to .ensures) in
+    let i = ids-right (up .before .range-of .result) _ (s .args .n) (s .pre .2) (up .before .range-of .ensures) (up .up-to .ensures) in
     let row = up .before .before .difference-at .ensures in
     stopped (entry (among (idRange (s .args .n))) (differenceRow (s .args .differences .now) (s .args .j) .to) ∷ entry (among weightRange) (codeOfWeight (signed (differenceRow (s .args .differences .now) (s .args .j) .weight))) ∷ []) (c .enum-told .given .1) (rw (i .0, i .1, row) at (f1 .put-in .ensures))
 
@@ -37,7 +37,7 @@ put-in-requires-2 c κs =
     let f1 = k1 .before .before .before .before .before in
     let s = f1 .before .before .before .before .before .before .before in
     let up = f1 .before .before in
-    let i = ids-right (s .args .n) (up .before .range-of .result) _ (s .pre .2) (up .before .range-of .ensures) (up .up-to .ensures) in
+    let i = ids-right (up .before .range-of .result) _ (s .args .n) (s .pre .2) (up .before .range-of .ensures) (up .up-to .ensures) in
     let row = up .before .before .difference-at .ensures in
     let most = id-bytes {x = s .args .n - 1} (omega (arith, s .pre .2)) in
     let w1 = begun (k1 .before .from-put .given .1) (rw (i .0, i .1, row) at (f1 .put-in .ensures)) in
@@ -50,7 +50,7 @@ returns-2 c =
     let f1 = k1 .before .before .before .before .before in
     let s = f1 .before .before .before .before .before .before .before in
     let up = f1 .before .before in
-    let i = ids-right (s .args .n) (up .before .range-of .result) _ (s .pre .2) (up .before .range-of .ensures) (up .up-to .ensures) in
+    let i = ids-right (up .before .range-of .result) _ (s .args .n) (s .pre .2) (up .before .range-of .ensures) (up .up-to .ensures) in
     let row = up .before .before .difference-at .ensures in
     let w1 = begun (k1 .before .from-put .given .1) (rw (i .0, i .1, row) at (f1 .put-in .ensures)) in
     last-one w1 (stopped (entry (among weightRange) (codeOfWeight (signed (differenceRow (s .args .differences .now) (s .args .j) .weight))) ∷ []) (c .enum-told2 .given .1) (rw (i .0, i .1, row) at (f2 .put-in2 .ensures)))
@@ -63,7 +63,7 @@ put-field-requires c κs =
     let f1 = k1 .before .before .before .before .before in
     let s = f1 .before .before .before .before .before .before .before in
     let up = f1 .before .before in
-    let i = ids-right (s .args .n) (up .before .range-of .result) _ (s .pre .2) (up .before .range-of .ensures) (up .up-to .ensures) in
+    let i = ids-right (up .before .range-of .result) _ (s .args .n) (s .pre .2) (up .before .range-of .ensures) (up .up-to .ensures) in
     let row = up .before .before .difference-at .ensures in
     let most = id-bytes {x = s .args .n - 1} (omega (arith, s .pre .2)) in
     let w1 = begun (k1 .before .from-put .given .1) (rw (i .0, i .1, row) at (f1 .put-in .ensures)) in
@@ -79,7 +79,7 @@ returns-3 c =
     let f1 = k1 .before .before .before .before .before in
     let s = f1 .before .before .before .before .before .before .before in
     let up = f1 .before .before in
-    let i = ids-right (s .args .n) (up .before .range-of .result) _ (s .pre .2) (up .before .range-of .ensures) (up .up-to .ensures) in
+    let i = ids-right (up .before .range-of .result) _ (s .args .n) (s .pre .2) (up .before .range-of .ensures) (up .up-to .ensures) in
     let row = up .before .before .difference-at .ensures in
     let code = f3 .before .before .code-of .ensures in
     let w1 = begun (k1 .before .from-put .given .1) (rw (i .0, i .1, row) at (f1 .put-in .ensures)) in

@@ -1,4 +1,4 @@
--- `hold::floats` meets its contract. The invariant: the nodes of step 0 are marked, and only what is held is. The measure: how many nodes
+-- `hold::floats` meets its contract. The invariant: the nodes of a step below the shift are marked, and only what is held is. The measure: how many nodes
 -- are not marked.
 use borrow.Author.Needs.{needs}
 use borrow.Author.Tests.{not-true, not-false}
@@ -10,13 +10,13 @@ use Rattle.hold.proofs.floats.Statement.{statement}
 use Rattle.hold.proofs.floats.Tie as tie
 
 abbrev Inv-loop : tie.InvT-loop
-Inv-loop graph differences first next steps n m held₀ held = Marks graph differences steps held n m
+Inv-loop graph differences first next steps n m shift held₀ held = Marks graph differences steps held shift n m
 
 abbrev μ-loop : tie.MeasureT-loop
-μ-loop graph differences first next steps n m held₀ held = zeros held
+μ-loop graph differences first next steps n m shift held₀ held = zeros held
 
 loop-holds : tie.Need-loop-holds Inv-loop μ-loop
-loop-holds c = marks-first (c .hold-step-0 .ensures)
+loop-holds c = marks-first (c .hold-ground .ensures)
 
 hold-up-requires : tie.Need-hold-up-requires Inv-loop μ-loop
 hold-up-requires c κs =

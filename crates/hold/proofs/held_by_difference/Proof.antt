@@ -16,23 +16,23 @@ use Rattle.hold.proofs.held_by_difference.Statement.{statement}
 use Rattle.hold.proofs.held_by_difference.Tie as tie
 
 -- no difference from e on holds v, nor does the one before e: then none from n on does, where n is the next one before that
-none-more : (d steps held : List ℕ) (e m v n : ℕ) → n ≡ lastInto d (e - 1) v → 0 < e → ((i : ℕ) → e ≤ i → Tied d steps held m v i → ⊥)
-    → (Ties d steps held (e - 1) → ⊥) → (i : ℕ) → n ≤ i → Tied d steps held m v i → ⊥
-none-more d steps held e m v n q t none apart i l w = go (ltb i (e - 1)) (ltb i e) refl refl
+none-more : (d steps held : List ℕ) (p e m v n : ℕ) → n ≡ lastInto d (e - 1) v → 0 < e → ((i : ℕ) → e ≤ i → Tied d steps held p m v i → ⊥)
+    → (Ties d steps held p (e - 1) → ⊥) → (i : ℕ) → n ≤ i → Tied d steps held p m v i → ⊥
+none-more d steps held p e m v n q t none apart i l w = go (ltb i (e - 1)) (ltb i e) refl refl
   where
     go : (x y : Bool) → ltb i (e - 1) ≡ x → ltb i e ≡ y → ⊥
-    go true y p r = last-none d (e - 1) v i (omega arith) (ltb-true _ _ p) (w .into)
-    go false true p r =
+    go true y o r = last-none d (e - 1) v i (omega arith) (ltb-true _ _ o) (w .into)
+    go false true o r =
         let this : i ≡ e - 1 = omega (arith, ltb-false, ltb-true) in
         apart (rw this at (w .ties))
-    go false false p r = none i (ltb-false _ _ r) w
+    go false false o r = none i (ltb-false _ _ r) w
 
 abbrev Inv-loop : tie.InvT-loop
-Inv-loop differences first next steps held m v e₀ e =
-    (e ≤ m) × ((j : ℕ) → e ≡ j + 1 → toIn differences j ≡ v) × ((i : ℕ) → e ≤ i → Tied differences steps held m v i → ⊥)
+Inv-loop differences first next steps held m v shift e₀ e =
+    (e ≤ m) × ((j : ℕ) → e ≡ j + 1 → toIn differences j ≡ v) × ((i : ℕ) → e ≤ i → Tied differences steps held shift m v i → ⊥)
 
 abbrev μ-loop : tie.MeasureT-loop
-μ-loop differences first next steps held m v e₀ e = e
+μ-loop differences first next steps held m v shift e₀ e = e
 
 loop-holds : tie.Need-loop-holds Inv-loop μ-loop
 loop-holds c =
@@ -53,7 +53,7 @@ ties-requires c κs =
     let t = c .loop-test .taken in
     let h = l .inv .0 in
     let m = s .pre .0 .1 in
-    (omega arith, s .pre .1 .1 (l .e - 1) (omega arith))
+    ((omega arith, s .pre .0 .2), s .pre .1 .1 (l .e - 1) (omega arith))
 
 returns : tie.Need-returns Inv-loop μ-loop
 returns c =
@@ -87,7 +87,7 @@ loop-again c =
     let le = last-le d (l .e - 1) (a .v) in (
       omega arith,
       λ j e. last-hit d (l .e - 1) (a .v) j (sym q ∙ e),
-      none-more d (a .steps .now) (a .held .now) (l .e) (a .m) (a .v) _ q (omega arith) (l .inv .2) (rw (c .before .if1 .left) at (c .before .before .ties .ensures)),
+      none-more d (a .steps .now) (a .held .now) (a .shift) (l .e) (a .m) (a .v) _ q (omega arith) (l .inv .2) (rw (c .before .if1 .left) at (c .before .before .ties .ensures)),
     )
 
 returns-2 : tie.Need-returns-2 Inv-loop μ-loop

@@ -10,16 +10,16 @@ use Rattle.hold.proofs.held_by_operand.Statement.{statement}
 use Rattle.hold.proofs.held_by_operand.Tie as tie
 
 abbrev Inv-loop : tie.InvT-loop
-Inv-loop graph steps held v count own j₀ j = (j ≤ count) × (count ≤ 6) × ((k : ℕ) → k < j → Near graph steps held v k → ⊥)
+Inv-loop graph steps held v shift count own j₀ j = (j ≤ count) × (count ≤ 6) × ((k : ℕ) → k < j → Near graph steps held shift v k → ⊥)
 
 abbrev μ-loop : tie.MeasureT-loop
-μ-loop graph steps held v count own j₀ j = count - j
+μ-loop graph steps held v shift count own j₀ j = count - j
 
 loop-holds : tie.Need-loop-holds Inv-loop μ-loop
 loop-holds c =
     let s = c .before .before in
     let e = c .before .count-in .ensures in
-    let f = s .pre .1 .0 .few (s .args .v) (s .pre .0) in
+    let f = s .pre .1 .0 .few (s .args .v) (s .pre .0 .0) in
     (omega arith, omega arith, below-none _)
 
 operand-in-requires : tie.Need-operand-in-requires Inv-loop μ-loop
@@ -27,16 +27,16 @@ operand-in-requires c κs =
     let l = c .before .loop in
     let t = c .loop-test .taken in
     let few = l .inv .1 in
-    (c .before .before .before .before .pre .0, omega arith)
+    (c .before .before .before .before .pre .0 .0, omega arith)
 
 element-copy-out-if1 : tie.Need-element-copy-out-if1 Inv-loop μ-loop
 element-copy-out-if1 c =
     let i = c .before in
     let s = i .before .before .before .before in
     let n = i .before .before .before .count-in .ensures in
-    let low = s .pre .1 .0 .falls (s .args .v) (i .before .loop .j) (s .pre .0) (rw n at (i .loop-test .taken)) in
+    let low = s .pre .1 .0 .falls (s .args .v) (i .before .loop .j) (s .pre .0 .0) (rw n at (i .loop-test .taken)) in
     let e = c .operand-in .ensures in
-    let v = s .pre .0 in
+    let v = s .pre .0 .0 in
     omega arith
 
 ready-step-requires : tie.Need-ready-step-requires Inv-loop μ-loop
@@ -45,9 +45,9 @@ ready-step-requires c κs =
     let i = o .before in
     let s = i .before .before .before .before in
     let n = i .before .before .before .count-in .ensures in
-    let low = s .pre .1 .0 .falls (s .args .v) (i .before .loop .j) (s .pre .0) (rw n at (i .loop-test .taken)) in
+    let low = s .pre .1 .0 .falls (s .args .v) (i .before .loop .j) (s .pre .0 .0) (rw n at (i .loop-test .taken)) in
     let e = o .operand-in .ensures in
-    let v = s .pre .0 in
+    let v = s .pre .0 .0 in
     (omega arith, s .pre .1 .1 (o .operand-in .result) (omega arith))
 
 add-if2 : tie.Need-add-if2 Inv-loop μ-loop
@@ -57,10 +57,11 @@ add-if2 c =
     let i = o .before in
     let s = i .before .before .before .before in
     let n = i .before .before .before .count-in .ensures in
-    let low = s .pre .1 .0 .falls (s .args .v) (i .before .loop .j) (s .pre .0) (rw n at (i .loop-test .taken)) in
+    let low = s .pre .1 .0 .falls (s .args .v) (i .before .loop .j) (s .pre .0 .0) (rw n at (i .loop-test .taken)) in
     let e = o .operand-in .ensures in
     let soon = s .pre .1 .1 (o .operand-in .result) (omega arith) in
-    omega (arith, f .ready-step .ensures)
+    let v = s .pre .0 .0 in
+    omega (arith, f .ready-step .ensures, s .pre .0 .1, soon)
 
 returns : tie.Need-returns Inv-loop μ-loop
 returns c =
@@ -72,7 +73,7 @@ returns c =
     let h = held-yes (s .args .held .now) _ (f .before .if1 .taken) in (
       i .before .loop .j,
       rw n at (i .loop-test .taken),
-      near-by (s .args .graph .now) (s .args .steps .now) (s .args .held .now) (s .args .v) (i .before .loop .j) (o .operand-in .ensures) (f .ready-step .ensures) (i .before .before .step-of .ensures) h (omega (arith, c .if2 .taken)),
+      near-by (s .args .graph .now) (s .args .steps .now) (s .args .held .now) (s .args .shift) (s .args .v) (i .before .loop .j) (o .operand-in .ensures) (f .ready-step .ensures) (i .before .before .step-of .ensures) h (omega (arith, c .if2 .taken)),
     )
 
 loop-again : tie.Need-loop-again Inv-loop μ-loop
@@ -87,7 +88,7 @@ loop-again c =
       omega arith,
       l .inv .1,
       below-more _ _ (l .inv .2)
-          (λ near. ⊎-elim (λ w. not-close (s .args .graph .now) (s .args .steps .now) (s .args .held .now) (s .args .v) (l .j) e (w .1 .ensures) o (omega (arith, w .4 .left)) near) (λ w. not-marked (s .args .graph .now) (s .args .steps .now) (s .args .held .now) (s .args .v) (l .j) e (held-no (s .args .held .now) _ (w .left)) near) (c .if1 .came)),
+          (λ near. ⊎-elim (λ w. not-close (s .args .graph .now) (s .args .steps .now) (s .args .held .now) (s .args .shift) (s .args .v) (l .j) e (w .1 .ensures) o (omega (arith, w .4 .left)) near) (λ w. not-marked (s .args .graph .now) (s .args .steps .now) (s .args .held .now) (s .args .shift) (s .args .v) (l .j) e (held-no (s .args .held .now) _ (w .left)) near) (c .if1 .came)),
     )
 
 returns-2 : tie.Need-returns-2 Inv-loop μ-loop

@@ -11,11 +11,11 @@ use Rattle.hold.proofs.holdable.Statement.{statement}
 use Rattle.hold.proofs.holdable.Tie as tie
 
 -- no operand holds v: then a difference has to
-by-the-rest : (graph differences steps held : List ℕ) (m v : ℕ) → ((j : ℕ) → j < countIn graph v → Near graph steps held v j → ⊥)
-    → (r : Bool) → ByDifference differences steps held m v r
-    → Ends r (Holdable graph differences steps held m v) (Holdable graph differences steps held m v → ⊥)
-by-the-rest graph differences steps held m v none true by = inr by
-by-the-rest graph differences steps held m v none false by = ⊎-elim (λ w. none (w .0) (w .1) (w .2)) (λ w. by (w .0) (w .1))
+by-the-rest : (graph differences steps held : List ℕ) (p m v : ℕ) → ((j : ℕ) → j < countIn graph v → Near graph steps held p v j → ⊥)
+    → (r : Bool) → ByDifference differences steps held p m v r
+    → Ends r (Holdable graph differences steps held p m v) (Holdable graph differences steps held p m v → ⊥)
+by-the-rest graph differences steps held p m v none true by = inr by
+by-the-rest graph differences steps held p m v none false by = ⊎-elim (λ w. none (w .0) (w .1) (w .2)) (λ w. by (w .0) (w .1))
 
 returns : tie.Need-returns
 returns c = inl (rw (c .if1 .taken) at (c .before .held-by-operand .ensures))
@@ -24,7 +24,7 @@ returns-2 : tie.Need-returns-2
 returns-2 c =
     let o = c .before .before in
     let a = o .before .args in
-    by-the-rest (a .graph .now) (a .differences .now) (a .steps .now) (a .held .now) (a .m) (a .v) (rw (c .before .if1 .left) at (o .held-by-operand .ensures))
+    by-the-rest (a .graph .now) (a .differences .now) (a .steps .now) (a .held .now) (a .shift) (a .m) (a .v) (rw (c .before .if1 .left) at (o .held-by-operand .ensures))
     (c .held-by-difference .result) (c .held-by-difference .ensures)
 
 pub holdable-spec : {M : Type 1} → statement M

@@ -34,6 +34,16 @@ add-behind c =
     let f = t .step-of2 .ensures ∙ ap (λ (u : ℕ). getD (s .args .steps .now) u 0) (e .1) in
     omega (arith, s .pre .1 .behind, e .3)
 
+add-shifted : tie.Need-add-shifted
+add-shifted c =
+    let t = c .before .before .before .before in
+    let a = t .before in
+    let b = a .before .before .before in
+    let s = b .before in
+    let e = b .difference-in .ensures in
+    let f = a .step-of .ensures ∙ ap (λ (u : ℕ). getD (s .args .steps .now) u 0) (e .0) in
+    omega (arith, s .pre .1 .ahead, s .pre .0 .1, e .2)
+
 returns-2 : tie.Need-returns-2
 returns-2 c r =
     let t = c .before .before .before .before .before in
@@ -72,5 +82,6 @@ ties-spec =
     (λ c κs. search needs)
     add-ahead
     add-behind
+    add-shifted
     returns-2
     returns-3)

@@ -3,7 +3,7 @@ use mathlib.Core.Path.{ap, _∙_}
 use native.Mathlib.Omega.{arith}
 use Rattle.types.specs.Code.{kindMeant}
 use Rattle.bound.proofs.Safety.{node-in, graph-falls, soon-all, bounding}
-use Rattle.pass.proofs.TurnNode.{kept-beside, kind-is, placed, based-level, settles-base, settles-latest}
+use Rattle.pass.proofs.TurnNode.{kept-beside, kind-is, placed, based-level, settles-base, latest-room, settles-latest}
 use borrow.Author.Needs.{needs}
 use Rattle.pass.proofs.node_label.Statement.{statement}
 use Rattle.pass.proofs.node_label.Tie as tie
@@ -34,6 +34,17 @@ latest-arrival-requires c κs =
     let l = s .pre .1 in
     (node-in (going .given) (s .args .v) l .1, (graph-falls (going .given), λ u k. soon-all (going .given) (going .timed) u (omega (arith, l))))
 
+open-label-requires : tie.Need-open-label-requires
+open-label-requires c κs =
+    let t = c .before in
+    let b = t .before .before .before in
+    let s = b .before in
+    let S = s .pre .0 .0 in
+    let going = s .pre .0 .1 in
+    let l = s .pre .1 in
+    let v = s .args .v in
+    (node-in (going .given) v l .1, latest-room going v l (s .pre .0 .2) (b .base-label .ensures S (bounding going v l)) (c .latest-arrival .ensures))
+
 returns : tie.Need-returns
 returns c S going p l =
     let t = c .before .before in
@@ -58,15 +69,17 @@ returns-2 c S going p l =
 
 returns-3 : tie.Need-returns-3
 returns-3 c S going p l =
-    let t = c .before in
+    let m = c .before in
+    let t = m .before in
     let k = t .before .before in
     let b = k .before in
     let s = b .before in
     let v = s .args .v in
     record {
       settles =
-          settles-latest going v l p (b .base-label .ensures S (bounding going v l)) _ _ (kind-is going v l _ (k .kind-in .ensures) ∙ ap kindMeant (t .enum-told3 .given .1))
-          (c .latest-arrival .ensures);
+          rw (c .open-label .ensures)
+          (settles-latest going v l p (b .base-label .ensures S (bounding going v l)) _ _ (kind-is going v l _ (k .kind-in .ensures) ∙ ap kindMeant (t .enum-told3 .given .1))
+          (m .latest-arrival .ensures));
       allKept = going .allKept;
     }
 
@@ -81,6 +94,7 @@ node-label-spec =
     (λ c. search needs)
     (λ c. search needs)
     latest-arrival-requires
+    open-label-requires
     returns
     returns-2
     returns-3)

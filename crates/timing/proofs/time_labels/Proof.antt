@@ -1,56 +1,32 @@
 -- `timing::time_labels` meets its contract.
-use borrow.Author.Needs.{needs}
 use borrow.Author.Tests.{not-true, not-false}
-use mathlib.Core.Path.{_∙_}
-use Rattle.bound.proofs.Safety.{few-nodes}
-use Rattle.timing.specs.Timing.{is-never, is-late, is-in-time}
-use Rattle.timing.proofs.Far.{far-given, far-late, far-least, far-soon}
+use borrow.Author.Needs.{needs}
+use native.Mathlib.Omega.{arith}
+use Rattle.timing.specs.Timing.{is-past, is-within}
+use Rattle.timing.proofs.Far.{some-entries}
 use Rattle.timing.proofs.time_labels.Statement.{statement}
 use Rattle.timing.proofs.time_labels.Tie as tie
 
-least-labels-requires : tie.Need-least-labels-requires
-least-labels-requires c κs =
-    let f = c .before .before .before in
-    let p = f .before .pre in
-    (p .0, far-given (p .1) (f .far-limits .ensures), p .2)
+time-ever-requires : tie.Need-time-ever-requires
+time-ever-requires c κs = let n = c .before .before .before in (n .before .before .pre, n .if1 .taken)
 
 returns : tie.Need-returns
-returns c S g k cuts =
-    let e = c .before .least-labels in
-    let f = c .before .before .before .before .before .far-limits .ensures in
-    is-never (far-late g f cuts (rw (not-true (e .result) (c .if1 .taken)) at (e .ensures S (far-given g f) k cuts)))
+returns c S g k cuts = c .time-ever .ensures S g k cuts
 
-in-time-requires : tie.Need-in-time-requires
-in-time-requires c κs =
-    let h = c .before in
-    let e = h .before .least-labels in
-    let r = h .before .before .before .before .before in
-    let f = r .far-limits .ensures in
-    let p = r .before .pre in
-    let q = rw (not-false (e .result) (h .if1 .left)) at (e .ensures (p .0) (far-given (p .1) f) (p .2) (p .3)) in
-    (few-nodes (p .1), far-soon (p .1) f (p .3) (e .last .1 .1 .1 .1 .0) (e .last .1 .1 .1 .1 .1 .0) q)
+least-labels-requires : tie.Need-least-labels-requires
+least-labels-requires c κs = let p = c .before .before .before .before .before .pre in (p .0, p .1, p .2)
 
 returns-2 : tie.Need-returns-2
 returns-2 c S g k cuts =
-    let t = c .before .in-time in
-    let h = c .before .before .before in
-    let e = h .before .least-labels in
-    let f = h .before .before .before .before .before .far-limits .ensures in
-    let steps = e .last .1 .1 .1 .1 .0 in
-    let levels = e .last .1 .1 .1 .1 .1 .0 in
-    is-late (far-least g f cuts steps levels (rw (not-false (e .result) (h .if1 .left)) at (e .ensures S (far-given g f) k cuts)))
-    (t .ensures S levels (g .tabled) (g .nodes) ∙ not-true (t .result) (c .if2 .taken))
+    let e = c .before .least-labels in
+    let n = c .before .before .before .before .before in
+    is-past (some-entries g (omega (arith, n .if1 .left))) (rw (not-true (e .result) (c .if2 .taken)) at (e .ensures S g k cuts))
 
 returns-3 : tie.Need-returns-3
 returns-3 c S g k cuts =
-    let t = c .before .in-time in
-    let h = c .before .before .before in
-    let e = h .before .least-labels in
-    let f = h .before .before .before .before .before .far-limits .ensures in
-    let steps = e .last .1 .1 .1 .1 .0 in
-    let levels = e .last .1 .1 .1 .1 .1 .0 in
-    is-in-time (far-least g f cuts steps levels (rw (not-false (e .result) (h .if1 .left)) at (e .ensures S (far-given g f) k cuts)))
-    (t .ensures S levels (g .tabled) (g .nodes) ∙ not-false (t .result) (c .if2 .left))
+    let e = c .before .least-labels in
+    let n = c .before .before .before .before .before in
+    is-within (some-entries g (omega (arith, n .if1 .left))) (rw (not-false (e .result) (c .if2 .left)) at (e .ensures S g k cuts))
 
 pub time-labels-spec : {M : Type 1} → statement M
-time-labels-spec = tie.close (tie.spec (λ c κs. search needs) least-labels-requires returns in-time-requires returns-2 returns-3)
+time-labels-spec = tie.close (tie.spec time-ever-requires returns least-labels-requires returns-2 returns-3)

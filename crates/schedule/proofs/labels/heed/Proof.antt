@@ -4,21 +4,17 @@ use mathlib.Core.List.{List}
 use mathlib.Core.Logic.{⊎-elim}
 use Prim.Native.Nat.{ℕ}
 use Rattle.bound.specs.Lookup.{Heeding}
-use Rattle.bound.proofs.Safety.{few-nodes, few-differences, graph-falls, soon-all, summed-all}
+use Rattle.bound.proofs.Safety.{few-nodes, few-differences, summed-all}
 use Rattle.hold.proofs.HoldMarks.{not-both}
 use Rattle.sweep.proofs.Freezing.{frozen-heeding, thawed-heeding}
 use Rattle.schedule.proofs.labels.heed.Statement.{statement}
 use Rattle.schedule.proofs.labels.heed.Tie as tie
 
-floats-requires : tie.Need-floats-requires
-floats-requires c κs =
-    let p = c .before .pre in
-    let g = p .0 .2 in
-    let t = p .0 .3 in
-    ((few-nodes g, few-differences g), (graph-falls g, (λ u l. soon-all g t u l, (p .1 .0, λ i l. summed-all g t i l))))
+some-float-requires : tie.Need-some-float-requires
+some-float-requires c κs = let p = c .before .pre in (p .0, p .1 .0)
 
 returns : tie.Need-returns
-returns c = let w = rw (c .if2 .taken) at (c .before .floats .ensures) in (w .0, w .1, w .2, c .before .before .if1 .taken)
+returns c = let w = rw (c .if2 .taken) at (c .before .some-float .ensures) in (w .0, w .1, w .2, c .before .before .if1 .taken)
 
 freeze-requires : tie.Need-freeze-requires
 freeze-requires c κs = few-nodes (c .before .before .before .before .pre .0 .2)
@@ -46,4 +42,4 @@ returns-2 c =
     }
 
 pub heed-spec : {M : Type 1} → statement M
-heed-spec = tie.close (tie.spec floats-requires returns freeze-requires thaw-requires returns-2)
+heed-spec = tie.close (tie.spec some-float-requires returns freeze-requires thaw-requires returns-2)

@@ -10,7 +10,7 @@ unfolding differenceForm
 returns c =
     let f = c .before .before .before in
     let s = f .before .before .before .before in
-    let ids = ids-right (s .args .n) (f .before .before .range-of .result) (f .before .up-to .result) (s .pre .1) (f .before .before .range-of .ensures) (f .before .up-to .ensures) in
+    let ids = ids-right (f .before .before .range-of .result) (f .before .up-to .result) (s .args .n) (s .pre .1) (f .before .before .range-of .ensures) (f .before .up-to .ensures) in
     rw (← (rw (ids .0, ids .1) at (f .field-in .ensures)), c .refusal-of .ensures)
 
 returns-2 : tie.Need-returns-2
@@ -20,7 +20,7 @@ returns-2 c =
     let p = g .before in
     let f = p .before .before .before in
     let s = f .before .before .before .before in
-    let ids = ids-right (s .args .n) (f .before .before .range-of .result) (f .before .up-to .result) (s .pre .1) (f .before .before .range-of .ensures) (f .before .up-to .ensures) in
+    let ids = ids-right (f .before .before .range-of .result) (f .before .up-to .result) (s .args .n) (s .pre .1) (f .before .before .range-of .ensures) (f .before .up-to .ensures) in
     rw (← (rw (ids .0, ids .1) at (f .field-in .ensures)), p .before .from-read .given .1, ← (rw (ids .0, ids .1) at (g .field-in2 .ensures)), c .refusal-of2 .ensures)
 
 returns-3 : tie.Need-returns-3
@@ -32,7 +32,7 @@ returns-3 c =
     let p = g .before in
     let f = p .before .before .before in
     let s = f .before .before .before .before in
-    let ids = ids-right (s .args .n) (f .before .before .range-of .result) (f .before .up-to .result) (s .pre .1) (f .before .before .range-of .ensures) (f .before .up-to .ensures) in
+    let ids = ids-right (f .before .before .range-of .result) (f .before .up-to .result) (s .args .n) (s .pre .1) (f .before .before .range-of .ensures) (f .before .up-to .ensures) in
     rw (
       ← (rw (ids .0, ids .1) at (f .field-in .ensures)),
       p .before .from-read .given .1,
@@ -52,7 +52,7 @@ returns-4 c =
     let p = g .before in
     let f = p .before .before .before in
     let s = f .before .before .before .before in
-    let ids = ids-right (s .args .n) (f .before .before .range-of .result) (f .before .up-to .result) (s .pre .1) (f .before .before .range-of .ensures) (f .before .up-to .ensures) in
+    let ids = ids-right (f .before .before .range-of .result) (f .before .up-to .result) (s .args .n) (s .pre .1) (f .before .before .range-of .ensures) (f .before .up-to .ensures) in
     rw (
       c .before .ahead-of .ensures,
       c .back-of .ensures,
