@@ -13,11 +13,23 @@ pub fn store_sheet(
     nodes: &[u32],
     operands: &[u32],
     differences: &[u32],
+    period: u32,
+    windows: &[u32],
     buffer: &mut [u8],
 ) -> Answer
-    ensures stores { λ r. ⌜ Stores (recordsIn leaves top horizon (now (nodes .entry)) (now (operands .entry)) (now (differences .entry)))
+    ensures stores { λ r. ⌜ Stores (recordsIn leaves top horizon (now (nodes .entry)) (now (operands .entry)) (now (differences .entry)) period (now (windows .entry)))
         (now (buffer .entry)) (r .number) (r .place) (now (buffer .exit)) ⌝ }
     ensures bounds { λ r. ⌜ StoreBounded (length (now (buffer .entry))) (r .number) (r .place) ⌝ }
 {
-    maps_write_rows(leaves, top, horizon, nodes, operands, differences, buffer)
+    maps_write_rows(
+        leaves,
+        top,
+        horizon,
+        nodes,
+        operands,
+        differences,
+        period,
+        windows,
+        buffer,
+    )
 }

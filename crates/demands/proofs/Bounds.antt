@@ -1,4 +1,4 @@
--- Every number is one of 0 to 8, and no plan is longer than `planMost`.
+-- Every number is one of 0 to 8 or 12, and no plan is longer than `planMost`.
 use Prim.Native.Nat.{ℕ, _*_, _≤_, _<_}
 use mathlib.Core.Path.{_≡_, refl}
 use mathlib.Core.Bool.{Bool, true, false, cond, _&&_}
@@ -28,7 +28,7 @@ use Rattle.maps.proofs.UsedNodes.{chosen-below}
 use Rattle.maps.proofs.WrittenSize.{plan-most, within-bytes}
 use Rattle.maps.proofs.Refusing.{refuses-number}
 use Rattle.demands.specs.Bounds.{Bounded}
-use Rattle.demands.specs.Demands.{Ground, unread, uncut, never, tooLate, tooShort, planned}
+use Rattle.demands.specs.Demands.{Ground, unread, uncut, never, tooLate, windowed, tooShort, planned}
 use Rattle.demands.proofs.Demands.{ground-of}
 
 -- lists of at most b elements each, one after the other
@@ -93,8 +93,9 @@ module _ (bytes : List ℕ) (room : ℕ) where
   number-among : {k p : ℕ} → Ground bytes room k p → (k ≤ 8) ⊎ (k ≡ 12)
   number-among (unread k p f) = inl (omega (arith, refuses-number f .1))
   number-among (uncut S v f h) = inl (omega arith)
-  number-among (never S f a h) = inr refl
-  number-among (tooLate S f a h) = inl (omega arith)
+  number-among (never S f a o h) = inr refl
+  number-among (tooLate S f a o h) = inl (omega arith)
+  number-among (windowed S f a o h) = inl (omega arith)
   number-among (tooShort S L f a h l) = inl (omega arith)
   number-among (planned S L f a h l) = inl (omega arith)
 
@@ -103,16 +104,18 @@ module _ (bytes : List ℕ) (room : ℕ) where
   place-most (unread k p f) (inr e) = absurd (omega (arith, refuses-number f .1))
   place-most (uncut S v f h) (inl e) = absurd (omega arith)
   place-most (uncut S v f h) (inr e) = absurd (omega arith)
-  place-most (never S f a h) e = omega arith
-  place-most (tooLate S f a h) e = omega arith
+  place-most (never S f a o h) e = omega arith
+  place-most (tooLate S f a o h) e = omega arith
+  place-most (windowed S f a o h) e = omega arith
   place-most (tooShort S L f a h l) e = plan-length S (f .well) L (h .isLeast .legal)
   place-most (planned S L f a h l) e = plan-length S (f .well) L (h .isLeast .legal)
 
   room-less : {k p : ℕ} → Ground bytes room k p → k ≡ 8 → room < p
   room-less (unread k p f) e = absurd (omega (arith, refuses-number f .1))
   room-less (uncut S v f h) e = absurd (omega arith)
-  room-less (never S f a h) e = absurd (omega arith)
-  room-less (tooLate S f a h) e = absurd (omega arith)
+  room-less (never S f a o h) e = absurd (omega arith)
+  room-less (tooLate S f a o h) e = absurd (omega arith)
+  room-less (windowed S f a o h) e = absurd (omega arith)
   room-less (tooShort S L f a h l) e = l
   room-less (planned S L f a h l) e = absurd (omega arith)
 

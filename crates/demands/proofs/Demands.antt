@@ -10,9 +10,9 @@ use lib.ListN.{length, take}
 use borrow.Author.Tests.{leb-true, leb-false, le-leb, lt-leb, ltb-true, ltb-false, eqb-true}
 use Rattle.maps.specs.Lists.{mem, keep, below}
 use Rattle.maps.specs.Label.{Label}
-use Rattle.maps.specs.Sheet.{Sheet, node, size, isLogic}
+use Rattle.maps.specs.Sheet.{Sheet, Window, node, size, isLogic}
 use Rattle.maps.specs.Cut.{FittingCut, logicNode, cut, fittingCuts}
-use Rattle.maps.specs.Legal.{Legal, CarryingCut, NoneLegal, Never, Longer}
+use Rattle.maps.specs.Legal.{Legal, CarryingCut, NoneLegal, Never, Longer, Least}
 use Rattle.maps.specs.Least.{at, inTime, Labels, leastEver}
 use Rattle.maps.specs.Cover.{Used, used, chosenCut}
 use Rattle.maps.specs.Plan.{plan}
@@ -20,7 +20,7 @@ use Rattle.maps.specs.Number.{Bytes}
 use Rattle.maps.specs.Read.{Parsed, sheet, refused, parse}
 use Rattle.maps.specs.Reading.{ReadsAs}
 use Rattle.maps.specs.WellFormed.{WellFormed}
-use Rattle.maps.specs.Outcome.{Outcome, accepted, refusal, within, withinHorizon, timed, cutless, covered, outcome, outcomeNumber, outcomePlace}
+use Rattle.maps.specs.Outcome.{Outcome, accepted, refusal, within, withinHorizon, timed, labelled, cutless, covered, outcome, outcomeNumber, outcomePlace}
 use Rattle.maps.proofs.Over.{and-true}
 use Rattle.maps.proofs.Member.{keep-in, below-in, keep-append}
 use Rattle.maps.proofs.Enumerate.{clash, complete, sound}
@@ -31,7 +31,8 @@ use Rattle.maps.proofs.Refusing.{parse-refuses, refuses-parse, refuses-number}
 use Rattle.maps.proofs.Planned.{ordered, latency-least, legal-carries, refused-outcome, sheet-outcome}
 use Rattle.never.specs.Ever.{Ever, never, some}
 use Rattle.never.proofs.Horizons.{ever-right, in-time, longer, never-computed, longer-computed, in-time-computed}
-use Rattle.demands.specs.Demands.{AllCut, LowestCutless, LeastLabels, Ground, unread, uncut, tooLate, tooShort, planned, Covers, Demand-1, Planned, Demand-2, LeastPlan, Demand-3}
+use Rattle.never.proofs.Entries.{plain-labelled, entries-late, entries-least, entries-found}
+use Rattle.demands.specs.Demands.{NoEntries, Entries, AllCut, LowestCutless, LeastLabels, Ground, unread, uncut, tooLate, tooShort, planned, Covers, Demand-1, Planned, Demand-2, LeastPlan, Demand-3}
 use Rattle.bytes.specs.Outcome.{Answered}
 use Rattle.demands.proofs.Answers.{untouched, placed, front, back}
 
@@ -162,42 +163,64 @@ module _ (S : Sheet) (well : WellFormed S) (L : List Label) (ok : Legal S (at L)
 
 -- ---- the outcome of a sheet in which each logic node has a fitting cut
 
--- nothing is legal under any horizon, nothing within H but within a larger one, or there are least labels
+-- nothing is legal under any horizon, nothing within H but within a larger one, nothing within H with entries, or there are least labels
 data Found (S : Sheet) : Type 0 where
-  nowhere : Never S → Found S
-  further : Longer S → Found S
+  nowhere : NoEntries S → Never S → Found S
+  further : NoEntries S → Longer S → Found S
+  past : Entries S → NoneLegal S (S .horizon) → Found S
   here : (L : List Label) → LeastLabels S L → Found S
+
+-- a sheet has entries, or none
+by-entries : {A : Type 0} (S : Sheet) → (NoEntries S → A) → (Entries S → A) → A
+by-entries {A} S f g = go (S .windows) refl
+  where
+    go : (ws : List Window) → S .windows ≡ ws → A
+    go [] q = f q
+    go (w ∷ ws) q = g (λ z. List·Memᴰ·not-nil (subst (List·Memᴰ w) (sym q ∙ z) (List·Memᴰ·head refl)))
 
 module _ (bytes : List ℕ) (S : Sheet) (e : ReadsAs bytes S) (a : AllCut S) where
   none-lacks : cutless S ≡ []
   none-lacks = none-cutless S (e .well) a
 
-  timed-outcome : (room : ℕ) → outcome bytes room ≡ timed S room (leastEver S)
-  timed-outcome room = sheet-outcome bytes S (reads-parse bytes S e) room ∙ ap (covered S room) none-lacks
+  labelled-outcome : (room : ℕ) → outcome bytes room ≡ labelled S room (S .windows)
+  labelled-outcome room = sheet-outcome bytes S (reads-parse bytes S e) room ∙ ap (covered S room) none-lacks
 
-  never-outcome : Never S → (room : ℕ) → outcome bytes room ≡ refusal 12 0
-  never-outcome n room = timed-outcome room ∙ ap (timed S room) (never-computed S (e .well) none-lacks n)
+  timed-outcome : NoEntries S → (room : ℕ) → outcome bytes room ≡ timed S room (leastEver S)
+  timed-outcome o room = labelled-outcome room ∙ plain-labelled S o room
 
-  late-outcome : Longer S → (room : ℕ) → outcome bytes room ≡ refusal 7 0
-  late-outcome h room =
-      let l = longer-computed S (e .well) none-lacks h in
-      timed-outcome room ∙ ap (timed S room) (l .1) ∙ ap (withinHorizon S room (l .0)) (l .2)
+  never-outcome : NoEntries S → Never S → (room : ℕ) → outcome bytes room ≡ refusal 12 0
+  never-outcome o n room = timed-outcome o room ∙ ap (timed S room) (never-computed S (e .well) o none-lacks n)
+
+  late-outcome : NoEntries S → Longer S → (room : ℕ) → outcome bytes room ≡ refusal 7 0
+  late-outcome o h room =
+      let l = longer-computed S (e .well) o none-lacks h in
+      timed-outcome o room ∙ ap (timed S room) (l .1) ∙ ap (withinHorizon S room (l .0)) (l .2)
+
+  past-outcome : Entries S → NoneLegal S (S .horizon) → (room : ℕ) → outcome bytes room ≡ refusal 7 0
+  past-outcome o h room = labelled-outcome room ∙ entries-late S (e .well) none-lacks o h room
 
   least-outcome : (L : List Label) → LeastLabels S L → (room : ℕ) → outcome bytes room ≡ within room (plan S L)
   least-outcome L h room =
-      let l = in-time-computed S (e .well) none-lacks L (h .sized) (h .isLeast) in
-      timed-outcome room ∙ ap (timed S room) (l .0) ∙ ap (withinHorizon S room L) (l .1)
+      by-entries S
+      (λ o.
+      let l = in-time-computed S (e .well) o none-lacks L (h .sized) (h .isLeast) in
+      timed-outcome o room ∙ ap (timed S room) (l .0) ∙ ap (withinHorizon S room L) (l .1))
+      (λ o. labelled-outcome room ∙ entries-least S (e .well) none-lacks o L (h .sized) (h .isLeast) room)
 
   found : Found S
-  found = go (ever-right S (e .well) none-lacks)
+  found = by-entries S (λ o. any o (ever-right S (e .well) o none-lacks)) (λ o. own o (entries-found S (e .well) none-lacks o))
     where
-      go : {r : Labels} → Ever S r → Found S
-      go (never h) = nowhere h
-      go (some {L} n h) = pick (inTime S L (S .horizon)) refl
+      any : NoEntries S → {r : Labels} → Ever S r → Found S
+      any o (never h) = nowhere o h
+      any o (some {L} n h) = pick (inTime S L (S .horizon)) refl
         where
           pick : (t : Bool) → inTime S L (S .horizon) ≡ t → Found S
-          pick true q = here L (record { sized = n; isLeast = in-time S (e .well) none-lacks L h (S .horizon) q })
-          pick false q = further (longer S (e .well) none-lacks L h q)
+          pick true q = here L (record { sized = n; isLeast = in-time S (e .well) o none-lacks L h (S .horizon) q })
+          pick false q = further o (longer S (e .well) o none-lacks L h q)
+
+      own : Entries S → NoneLegal S (S .horizon) ⊎ ((L : List Label) × (length L ≡ size S) × Least S (S .horizon) (at L)) → Found S
+      own o (inl h) = past o h
+      own o (inr h) = here (h .0) (record { sized = h .1; isLeast = h .2 })
 
   in-room : (L : List Label) → LeastLabels S L → (room : ℕ) → length (plan S L) ≤ room → outcome bytes room ≡ accepted (plan S L)
   in-room L h room l = least-outcome L h room ∙ rw (le-leb (length (plan S L)) room l)
@@ -214,8 +237,9 @@ module _ (bytes : List ℕ) (S : Sheet) (e : ReadsAs bytes S) (a : AllCut S) whe
       fits L h false q = let l = leb-false (length (plan S L)) room q in rw (no-room L h room l) (tooShort S L e a h l)
 
       go : Found S → GroundOf bytes room
-      go (nowhere n) = rw (never-outcome n room) (Ground.never S e a n)
-      go (further h) = rw (late-outcome h room) (tooLate S e a h)
+      go (nowhere o n) = rw (never-outcome o n room) (Ground.never S e a o n)
+      go (further o h) = rw (late-outcome o h room) (tooLate S e a o h)
+      go (past o h) = rw (past-outcome o h room) (Ground.windowed S e a o h)
       go (here L h) = fits L h (leb (length (plan S L)) room) refl
 
 -- ---- any bytes
@@ -240,8 +264,9 @@ module _ (bytes : List ℕ) (room : ℕ) where
       go : (vs : List ℕ) → cutless S ≡ vs → covered S room vs ≡ refusal 6 v
       go [] q = let k = all-cut S (e .well) q v (h .node) (h .isLogic) in absurd (h .none (k .0) (k .1))
       go (w ∷ ws) q = ap (refusal 6) (sym (one-lowest S (e .well) v w h (lowest-cutless S (e .well) w ws q)))
-  said (Ground.never S e a n) = parts (never-outcome bytes S e a n room)
-  said (tooLate S e a h) = parts (late-outcome bytes S e a h room)
+  said (Ground.never S e a o n) = parts (never-outcome bytes S e a o n room)
+  said (tooLate S e a o h) = parts (late-outcome bytes S e a o h room)
+  said (Ground.windowed S e a o h) = parts (past-outcome bytes S e a o h room)
   said (tooShort S L e a h l) = parts (no-room bytes S e a L h room l)
   said (planned S L e a h l) = parts (in-room bytes S e a L h room l)
 
@@ -261,8 +286,9 @@ module _ (bytes buffer : List ℕ) (number place : ℕ) (after : List ℕ) (b : 
       unreadable : {k p : ℕ} → ((S : Sheet) → ReadsAs bytes S → ⊥) → Ground bytes (length buffer) k p → (1 ≤ k) × (k ≤ 5)
       unreadable none (unread k p f) = refuses-number f
       unreadable none (uncut S v f h) = absurd (none S f)
-      unreadable none (Ground.never S f a h) = absurd (none S f)
-      unreadable none (tooLate S f a h) = absurd (none S f)
+      unreadable none (Ground.never S f a o h) = absurd (none S f)
+      unreadable none (tooLate S f a o h) = absurd (none S f)
+      unreadable none (Ground.windowed S f a o h) = absurd (none S f)
       unreadable none (tooShort S L f a h l) = absurd (none S f)
       unreadable none (planned S L f a h l) = absurd (none S f)
 
@@ -272,8 +298,9 @@ module _ (bytes buffer : List ℕ) (number place : ℕ) (after : List ℕ) (b : 
       go : {k p : ℕ} → Ground bytes (length buffer) k p → k ≡ 0 → Planned bytes buffer number place after
       go (unread k p f) q = absurd (omega (arith, refuses-number f .0))
       go (uncut S v f h) q = absurd (omega arith)
-      go (Ground.never S f a h) q = absurd (omega arith)
-      go (tooLate S f a h) q = absurd (omega arith)
+      go (Ground.never S f a o h) q = absurd (omega arith)
+      go (tooLate S f a o h) q = absurd (omega arith)
+      go (Ground.windowed S f a o h) q = absurd (omega arith)
       go (tooShort S L f a h l) q = absurd (omega arith)
       go (planned S L f a h l) q =
           let o = outcome bytes (length buffer) in
@@ -299,7 +326,8 @@ module _ (bytes buffer : List ℕ) (number place : ℕ) (after : List ℕ) (b : 
         never = never-said;
         neverOnly = λ q. never-only q (found bytes S e a);
         longer = late-said;
-        longerOnly = λ q. longer-only q (found bytes S e a);
+        longerOnly = λ o q. longer-only o q (found bytes S e a);
+        windowed = λ o q. seven o q (found bytes S e a);
         otherwise = λ q. rest q (found bytes S e a);
       }
     where
@@ -315,11 +343,14 @@ module _ (bytes buffer : List ℕ) (number place : ℕ) (after : List ℕ) (b : 
           let o = no-room bytes S e a L h room (leb-false (length (plan S L)) room q) in
           (inr (is .0 ∙ ap outcomeNumber o), is .1 ∙ ap outcomePlace o, λ z. absurd (omega (arith, is .0, ap outcomeNumber o)))
 
-      never-said : Never S → number ≡ 12
-      never-said n = is .0 ∙ ap outcomeNumber (never-outcome bytes S e a n room)
+      never-said : NoEntries S → Never S → number ≡ 12
+      never-said o n = is .0 ∙ ap outcomeNumber (never-outcome bytes S e a o n room)
 
-      late-said : Longer S → number ≡ 7
-      late-said h = is .0 ∙ ap outcomeNumber (late-outcome bytes S e a h room)
+      late-said : NoEntries S → Longer S → number ≡ 7
+      late-said o h = is .0 ∙ ap outcomeNumber (late-outcome bytes S e a o h room)
+
+      past-said : Entries S → NoneLegal S (S .horizon) → number ≡ 7
+      past-said o h = is .0 ∙ ap outcomeNumber (past-outcome bytes S e a o h room)
 
       -- where there are least labels the number is 0 or 8
       not-for-time : (L : List Label) → LeastLabels S L → (number ≡ 7 → ⊥) × (number ≡ 12 → ⊥)
@@ -330,27 +361,38 @@ module _ (bytes buffer : List ℕ) (number place : ℕ) (after : List ℕ) (b : 
           go (inr z) = (λ q. omega arith, λ q. omega arith)
 
       refused : NoneLegal S (S .horizon) → Found S → (number ≡ 7) ⊎ (number ≡ 12)
-      refused n (nowhere h) = inr (never-said h)
-      refused n (further h) = inl (late-said h)
+      refused n (nowhere o h) = inr (never-said o h)
+      refused n (further o h) = inl (late-said o h)
+      refused n (past o h) = inl (past-said o h)
       refused n (here L h) = absurd (n (at L) (h .isLeast .legal))
 
-      never-only : number ≡ 12 → Found S → Never S
-      never-only q (nowhere h) = h
-      never-only q (further h) = absurd (omega (arith, late-said h))
+      never-only : number ≡ 12 → Found S → NoEntries S × Never S
+      never-only q (nowhere o h) = (o, h)
+      never-only q (further o h) = absurd (omega (arith, late-said o h))
+      never-only q (past o h) = absurd (omega (arith, past-said o h))
       never-only q (here L h) = absurd (not-for-time L h .1 q)
 
-      longer-only : number ≡ 7 → Found S → Longer S
-      longer-only q (nowhere h) = absurd (omega (arith, never-said h))
-      longer-only q (further h) = h
-      longer-only q (here L h) = absurd (not-for-time L h .0 q)
+      longer-only : NoEntries S → number ≡ 7 → Found S → Longer S
+      longer-only o q (nowhere p h) = absurd (omega (arith, never-said p h))
+      longer-only o q (further p h) = h
+      longer-only o q (past p h) = absurd (p o)
+      longer-only o q (here L h) = absurd (not-for-time L h .0 q)
+
+      seven : Entries S → (number ≡ 7) ⊎ (number ≡ 12) → Found S → number ≡ 7
+      seven o (inl q) f = q
+      seven o (inr q) f = absurd (o (never-only q f .0))
 
       only : (number ≡ 7) ⊎ (number ≡ 12) → Found S → NoneLegal S (S .horizon)
-      only (inl q) f = longer-only q f .none
-      only (inr q) f = never-only q f (S .horizon)
+      only q (nowhere o h) = h (S .horizon)
+      only q (further o h) = h .none
+      only q (past o h) = h
+      only (inl q) (here L h) = absurd (not-for-time L h .0 q)
+      only (inr q) (here L h) = absurd (not-for-time L h .1 q)
 
       rest : ((number ≡ 7) ⊎ (number ≡ 12) → ⊥) → Found S → LeastPlan bytes buffer number place after S
-      rest q (nowhere h) = absurd (q (inr (never-said h)))
-      rest q (further h) = absurd (q (inl (late-said h)))
+      rest q (nowhere o h) = absurd (q (inr (never-said o h)))
+      rest q (further o h) = absurd (q (inl (late-said o h)))
+      rest q (past o h) = absurd (q (inl (past-said o h)))
       rest q (here L h) =
           let f = fits-or L h (leb (length (plan S L)) room) refl in
           record {

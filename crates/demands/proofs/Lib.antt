@@ -2,6 +2,7 @@ pub mod Answers
 pub mod Demands
 pub mod Bounds
 pub mod Keeping
+pub mod Windows
 pub mod Reading
 pub mod Stores
 pub mod Imports

@@ -10,7 +10,7 @@ use lib.ListN.{length, take}
 use borrow.Author.Tests.{leb-true, leb-false}
 use Rattle.maps.specs.Lists.{All}
 use Rattle.maps.specs.Reading.{ReadsAs}
-use Rattle.maps.specs.Form.{Rule, among, under, ground}
+use Rattle.maps.specs.Form.{Rule, among, boxed, under, ground}
 use Rattle.maps.specs.Outcome.{accepted, refusal, outcomeNumber}
 use Rattle.maps.specs.Records.{Records, sheetMeant, recordsOf}
 use Rattle.maps.specs.WriteLaws.{WriterLaws}
@@ -36,6 +36,7 @@ module _ (R : Records) (buffer : List ℕ) (number place : ℕ) (after : List �
     where
       go : (r : Rule) {k : ℕ} → ground r ≡ k → (k ≡ 3) ⊎ (k ≡ 4)
       go (among q) e = inl (sym e)
+      go (boxed q isBox) e = inl (sym e)
       go (under own) e = inr (sym e)
 
   not-0 : {k i : ℕ} → First (numbers R) k i → k ≡ 0 → ⊥

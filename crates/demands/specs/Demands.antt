@@ -16,6 +16,13 @@ use Rattle.maps.specs.Cover.{Chosen, Used, used}
 use Rattle.maps.specs.Plan.{leavesOf, plan}
 use Rattle.maps.specs.Reading.{ReadsAs, Refuses}
 
+-- document 02, U8: a sheet "with entries" has one window or more, whatever it closes
+abbrev pub NoEntries : Sheet → Type 0
+NoEntries S = S .windows ≡ []
+
+abbrev pub Entries : Sheet → Type 0
+Entries S = NoEntries S → ⊥
+
 -- each logic node has a fitting cut
 abbrev pub AllCut : Sheet → Type 0
 AllCut S = (v : ℕ) → v < size S → logicNode S v ≡ true → (c : List ℕ) × FittingCut S v c
@@ -38,9 +45,11 @@ pub data Ground (bytes : List ℕ) (room : ℕ) : (number place : ℕ) → Type 
   unread : (k p : ℕ) → Refuses bytes k p → Ground bytes room k p
   -- "every logic node without a fitting cut"
   uncut : (S : Sheet) (v : ℕ) → ReadsAs bytes S → LowestCutless S v → Ground bytes room 6 v
-  -- "every sheet without legal labels": under any horizon, or within its own where "some larger horizon .. would satisfy" it
-  never : (S : Sheet) → ReadsAs bytes S → AllCut S → Never S → Ground bytes room 12 0
-  tooLate : (S : Sheet) → ReadsAs bytes S → AllCut S → Longer S → Ground bytes room 7 0
+  -- "every sheet without legal labels": under any horizon, or within its own where "some larger horizon .. would satisfy" it; "For a sheet with
+  -- entries 7 covers both kinds of late sheet and 12 is not given"
+  never : (S : Sheet) → ReadsAs bytes S → AllCut S → NoEntries S → Never S → Ground bytes room 12 0
+  tooLate : (S : Sheet) → ReadsAs bytes S → AllCut S → NoEntries S → Longer S → Ground bytes room 7 0
+  windowed : (S : Sheet) → ReadsAs bytes S → AllCut S → Entries S → NoneLegal S (S .horizon) → Ground bytes room 7 0
   -- "every short buffer"
   tooShort : (S : Sheet) (L : List Label) → ReadsAs bytes S → AllCut S → LeastLabels S L → room < length (plan S L)
       → Ground bytes room 8 (length (plan S L))
@@ -103,15 +112,16 @@ module _ (bytes buffer : List ℕ) (number place : ℕ) (after : List ℕ) where
   abbrev pub ForTime : Type 0
   ForTime = (number ≡ 7) ⊎ (number ≡ 12)
 
-  -- "refused for time exactly when no legal labelling lies within its horizon. Otherwise .."; by document 02, U6, 12 exactly when none lies within any
-  -- horizon, and 7 exactly when none lies within its own and one within a larger
+  -- "refused for time exactly when no legal labelling lies within its horizon. Otherwise .."; by document 02, U6, without entries 12 exactly when none
+  -- lies within any horizon, and 7 exactly when none lies within its own and one within a larger; by U8, with entries 7 alone
   pub record InTime (S : Sheet) : Type 0 where
     pub late : NoneLegal S (S .horizon) → ForTime
     pub lateOnly : ForTime → NoneLegal S (S .horizon)
-    pub never : Never S → number ≡ 12
-    pub neverOnly : number ≡ 12 → Never S
-    pub longer : Longer S → number ≡ 7
-    pub longerOnly : number ≡ 7 → Longer S
+    pub never : NoEntries S → Never S → number ≡ 12
+    pub neverOnly : number ≡ 12 → NoEntries S × Never S
+    pub longer : NoEntries S → Longer S → number ≡ 7
+    pub longerOnly : NoEntries S → number ≡ 7 → Longer S
+    pub windowed : Entries S → ForTime → number ≡ 7
     pub otherwise : (ForTime → ⊥) → LeastPlan S
 
   -- "3. A sheet that reads and whose logic nodes all have a fitting cut (all such cuts counting, however many) is refused for time exactly when no

@@ -34,7 +34,7 @@ module _ (R : Records) (buffer : List ℕ) (number place : ℕ) (after : List �
 
 -- `MAPS_SHEET_MOST` of the C header
 abbrev pub mapsSheetMost : ℕ
-mapsSheetMost = 12041
+mapsSheetMost = 13068
 
 -- what number and place can be, for a buffer of `room` bytes: that many are enough for every sheet
 pub record StoreBounded (room number place : ℕ) : Type 0 where

@@ -27,7 +27,7 @@ use Rattle.maps.proofs.RecordLaws.{node-meant, differences-meant, well-passes}
 use Rattle.maps.proofs.Written.{leads-whole, leads-parse, whole-leads, reads-parse}
 use Rattle.former.specs.Former.{formerNodeForm, earlierForm, earlierParse, formerParse, unwindowedParse, formerNodeNumbers, earlierNumbers, earlierSpelling}
 use Rattle.former.specs.Plain.{plainParsed}
-use Rattle.former.specs.Rewritten.{Calm, Rewritten, Unwindowed, Keeps, KeepsReady}
+use Rattle.former.specs.Rewritten.{WithoutWindows, Rewritten, Unwindowed, Keeps, KeepsReady}
 use Rattle.former.proofs.Omitting.{Omits, end, both, skip, omits-bind, omits-none, omits-each, left, left-all, filled}
 use Rattle.former.proofs.Unwindowed.{legal-is-plain, round-plain, covered-plain}
 
@@ -40,15 +40,15 @@ record Earlier (F : (top own : ℕ) → Form Node) (N : (top own : ℕ) → Node
   meant : (v : Node) → P v → val (nodeRecord v) ≡ v
 
 -- The earlier form omits the period and the count too, for which 1 and 0 stand, and ends in the sheet that today's ends in with these.
-calm-passes : (n : ℕ) (isBox : ℕ → Bool) → Omits (λ c. c ≡ cycleOf 1 []) (done (cycleOf 1 [])) (cycleForm n isBox)
+without-passes : (n : ℕ) (isBox : ℕ → Bool) → Omits (λ c. c ≡ cycleOf 1 []) (done (cycleOf 1 [])) (cycleForm n isBox)
 unfolding cycleForm
-calm-passes n isBox = skip 1 refl (skip 0 (le-leb 0 n (omega arith)) (end refl))
+without-passes n isBox = skip 1 refl (skip 0 (le-leb 0 n (omega arith)) (end refl))
 
 module _ (F : (top own : ℕ) → Form Node) (N : (top own : ℕ) → NodeRecord → List Entry) (val : NodeRecord → Node) (P : Node → Type 0)
     (early : Earlier F N val P) where
   record Fits (S : Sheet) : Type 0 where
     nodes : All P (S .nodes)
-    calm : Calm S
+    without : WithoutWindows S
 
   abbrev afterAll : Header → List Node → List Difference → Form Sheet
   afterAll h vs ds = done (sheetOf h vs ds (cycleOf 1 []))
@@ -65,8 +65,8 @@ module _ (F : (top own : ℕ) → Form Node) (N : (top own : ℕ) → NodeRecord
       omits-bind earlierAfterHeader afterHeader (omits-none headerForm) λ h u.
       omits-bind (earlierAfterNodes h) (afterNodes h) (omits-each P (F (h .top)) (nodeForm (h .top)) (early .omits (h .top)) 0 (h .nodes)) λ vs z.
       omits-bind (afterAll h vs) (afterDifferences h vs) (omits-none (times (h .differences) (differenceForm (h .nodes)))) λ ds w.
-      omits-bind (λ c. done (sheetOf h vs ds c)) (λ c. done (sheetOf h vs ds c)) (calm-passes (h .nodes) (boxIn vs)) λ c e.
-      end (record { nodes = z; calm = record { period = ap (λ (k : Cycle). k .period) e; windows = ap (λ (k : Cycle). k .windows) e } })
+      omits-bind (λ c. done (sheetOf h vs ds c)) (λ c. done (sheetOf h vs ds c)) (without-passes (h .nodes) (boxIn vs)) λ c e.
+      end (record { nodes = z; without = record { period = ap (λ (k : Cycle). k .period) e; windows = ap (λ (k : Cycle). k .windows) e } })
 
   -- Records go along the earlier form to what they so mean.
   abbrev earlierMeant : Records → Sheet
@@ -111,7 +111,7 @@ module _ (F : (top own : ℕ) → Form Node) (N : (top own : ℕ) → NodeRecord
 
   sheet-meant : (S : Sheet) → WellFormed S → Fits S → earlierMeant (recordsOf S) ≡ S
   sheet-meant S w f =
-      rw (nodes-meant (S .nodes) (f .nodes), differences-meant (length (S .nodes)) (S .differences) (w .differences), sym (f .calm .period), sym (f .calm .windows))
+      rw (nodes-meant (S .nodes) (f .nodes), differences-meant (length (S .nodes)) (S .differences) (w .differences), sym (f .without .period), sym (f .without .windows))
 
   -- the earlier numbers of a well-formed sheet that fits lead through the earlier form to it
   numbers-lead : (S : Sheet) → WellFormed S → Fits S → Leads (earlierForm F) (valuesOf (earlierNumbers N (recordsOf S))) (done S)
@@ -162,9 +162,9 @@ module _ (F : (top own : ℕ) → Form Node) (N : (top own : ℕ) → NodeRecord
       record {
         formerReads = e;
         reads = p;
-        legal = legal-is-plain S w (f .calm .windows);
-        round = round-plain S w (f .calm .windows);
-        outcomes = λ room. ap (parsed room) p ∙ covered-plain S w (f .calm .windows) room (cutless S) ∙ ap (plainParsed room) (sym e);
+        legal = legal-is-plain S w (f .without .windows);
+        round = round-plain S w (f .without .windows);
+        outcomes = λ room. ap (parsed room) p ∙ covered-plain S w (f .without .windows) room (cutless S) ∙ ap (plainParsed room) (sym e);
       }
 
 -- Document 01's nodes: 0 is a q for every node, and is its q where it is given.
@@ -239,12 +239,12 @@ everything (v ∷ vs) = (tt, everything vs)
 pub rewrites : (old : List ℕ) (S : Sheet) → Bytes old → formerParse old ≡ sheet S → (r : Rewritten old (spelling S)) × (r .held ≡ S)
 rewrites old S b e =
     let t = restored formerNodeForm formerNodeNumbers formerMeant Zero former old S b e in
-    (record { held = S; well = t .well; calm = t .fits .calm; zero = zero-at (S .nodes) (t .fits .nodes); former = t .former; now = refl }, refl)
+    (record { held = S; well = t .well; without = t .fits .without; zero = zero-at (S .nodes) (t .fits .nodes); former = t .former; now = refl }, refl)
 
 pub keeps : (old bytes : List ℕ) (r : Rewritten old bytes) → Keeps formerParse old bytes (r .held)
 keeps old bytes r =
     keeping formerNodeForm formerNodeNumbers formerMeant Zero former old bytes (r .held) (r .well)
-    (record { nodes = zero-all (r .held .nodes) (r .zero); calm = r .calm }) (r .former) (r .now)
+    (record { nodes = zero-all (r .held .nodes) (r .zero); without = r .without }) (r .former) (r .now)
 
 pub keeps-ready : (old bytes : List ℕ) (r : Rewritten old bytes) → KeepsReady (r .held)
 keeps-ready old bytes r = record { ready = λ L u. rw (r .zero u) }
@@ -252,9 +252,9 @@ keeps-ready old bytes r = record { ready = λ L u. rw (r .zero u) }
 pub unwindows : (old : List ℕ) (S : Sheet) → Bytes old → unwindowedParse old ≡ sheet S → (r : Unwindowed old (spelling S)) × (r .held ≡ S)
 unwindows old S b e =
     let t = restored nodeForm nodeNumbers nodeMeant (λ v. Unit {0}) unwindowed old S b e in
-    (record { held = S; well = t .well; calm = t .fits .calm; former = t .former; now = refl }, refl)
+    (record { held = S; well = t .well; without = t .fits .without; former = t .former; now = refl }, refl)
 
 pub keeps-unwindowed : (old bytes : List ℕ) (r : Unwindowed old bytes) → Keeps unwindowedParse old bytes (r .held)
 keeps-unwindowed old bytes r =
     keeping nodeForm nodeNumbers nodeMeant (λ v. Unit {0}) unwindowed old bytes (r .held) (r .well)
-    (record { nodes = everything (r .held .nodes); calm = r .calm }) (r .former) (r .now)
+    (record { nodes = everything (r .held .nodes); without = r .without }) (r .former) (r .now)

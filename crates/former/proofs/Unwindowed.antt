@@ -26,18 +26,22 @@ module _ (S : Sheet) where
         differences = ok .differences;
       }
 
+  -- legal without windows, each node in an open step, is legal with them
+  pub open-legal : (L : ℕ → Label) (H : ℕ) → ((v : ℕ) → Open (S .period) (window S v) (L v .step)) → Plain S L H → Legal S L H
+  open-legal L H opens ok =
+      record {
+        nodes = λ v l. let k = ok .nodes v l in
+            record { low = k .low; high = k .high; ends = k .ends; after = k .after; carried = k .carried; starts = opens v };
+        differences = ok .differences;
+      }
+
   module _ (well : WellFormed S) (empty : S .windows ≡ []) where
     every-open : (v s : ℕ) → Open (S .period) (window S v) s
     every-open v s =
         subst (λ (w : Window). Open (S .period) w s) (sym (ap (windowIn (S .period) v) empty)) (whole-open (S .period) v s (well .period .least))
 
     pub plain-legal : (L : ℕ → Label) (H : ℕ) → Plain S L H → Legal S L H
-    plain-legal L H ok =
-        record {
-          nodes = λ v l. let k = ok .nodes v l in
-              record { low = k .low; high = k .high; ends = k .ends; after = k .after; carried = k .carried; starts = every-open v (L v .step) };
-          differences = ok .differences;
-        }
+    plain-legal L H = open-legal L H (λ v. every-open v (L v .step))
 
     pub legal-is-plain : (L : ℕ → Label) (H : ℕ) → Legal S L H ↔ Plain S L H
     legal-is-plain L H = (legal-plain L H, plain-legal L H)

@@ -1,3 +1,4 @@
 pub mod Plain
 pub mod Former
 pub mod Rewritten
+pub mod FormerCases

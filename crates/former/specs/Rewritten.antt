@@ -15,7 +15,7 @@ use Rattle.former.specs.Plain.{Plain, plainAt, plainParsed}
 use Rattle.former.specs.Former.{formerParse, formerSpelling, unwindowedSpelling, formerReady}
 
 -- the sheet has P = 1 and no entries
-pub record Calm (S : Sheet) : Type 0 where
+pub record WithoutWindows (S : Sheet) : Type 0 where
   pub period : S .period ≡ 1
   pub windows : S .windows ≡ []
 
@@ -23,7 +23,7 @@ pub record Calm (S : Sheet) : Type 0 where
 pub record Rewritten (old bytes : List ℕ) : Type 0 where
   pub held : Sheet
   pub well : WellFormed held
-  pub calm : Calm held
+  pub without : WithoutWindows held
   pub zero : (v : ℕ) → clockToQ held v ≡ 0
   pub former : old ≡ formerSpelling held
   pub now : bytes ≡ spelling held
@@ -32,7 +32,7 @@ pub record Rewritten (old bytes : List ℕ) : Type 0 where
 pub record Unwindowed (old bytes : List ℕ) : Type 0 where
   pub held : Sheet
   pub well : WellFormed held
-  pub calm : Calm held
+  pub without : WithoutWindows held
   pub former : old ≡ unwindowedSpelling held
   pub now : bytes ≡ spelling held
 

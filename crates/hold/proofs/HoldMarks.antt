@@ -16,7 +16,7 @@ use Rattle.maps.proofs.Member.{zeros-at}
 use Rattle.rows.specs.Table.{operandIn, latencyIn}
 use Rattle.rows.specs.Cells.{zeros}
 use Rattle.rows.proofs.Cells.{zeros-mark}
-use Rattle.hold.specs.Mark.{HeldIn, ground-in, operand-in, target-in, Floats, heldIn, OnlyHeld, HeldGround, Near, Holdable, NodeHeld, Marked, Swept, AllMarked}
+use Rattle.hold.specs.Mark.{HeldIn, early-in, operand-in, target-in, Floats, heldIn, OnlyHeld, HeldEarly, Near, Holdable, NodeHeld, Marked, Swept, AllMarked}
 
 -- ---- tests
 
@@ -64,20 +64,20 @@ held-still l v u h e = go (ℕ-discrete u v)
 
 -- ---- the nodes of a step below the shift
 
-pub ground-none : (steps : List ℕ) (p : ℕ) → HeldGround steps (replicate 256 0) p 0
-ground-none steps p =
+pub early-none : (steps : List ℕ) (p : ℕ) → HeldEarly steps (replicate 256 0) p 0
+early-none steps p =
     record {
       wide = length-replicate {A = ℕ} 256 0;
-      ground = below-none _;
+      early = below-none _;
       only = λ v k. absurd (not-both k (held-no (replicate 256 0) v (zeros-at 256 v)));
     }
 
-pub ground-mark : {steps held : List ℕ} {p v : ℕ} → HeldGround steps held p v → v < 256 → getD steps v 0 < p → HeldGround steps (set held v 1) p (v + 1)
-ground-mark {steps} {held} {p} {v} g l e =
+pub early-mark : {steps held : List ℕ} {p v : ℕ} → HeldEarly steps held p v → v < 256 → getD steps v 0 < p → HeldEarly steps (set held v 1) p (v + 1)
+early-mark {steps} {held} {p} {v} g l e =
     let h : v < length held = omega (arith, g .wide) in
     record {
       wide = length-set held v 1 ∙ g .wide;
-      ground = below-more _ v (λ u k z. held-still held v u h (g .ground u k z)) (λ z. held-here held v h);
+      early = below-more _ v (λ u k z. held-still held v u h (g .early u k z)) (λ z. held-here held v h);
       only = λ u k. go u k (ℕ-discrete u v);
     }
   where
@@ -85,11 +85,11 @@ ground-mark {steps} {held} {p} {v} g l e =
     go u k (yes q) = (omega arith, omega (arith, ap (λ (w : ℕ). getD steps w 0) q))
     go u k (no f) = let o = g .only u (sym (held-there held v u f) ∙ k) in (omega (arith, o .0), o .1)
 
-pub ground-skip : {steps held : List ℕ} {p v : ℕ} → HeldGround steps held p v → p ≤ getD steps v 0 → HeldGround steps held p (v + 1)
-ground-skip {steps} {held} {p} {v} g f =
+pub early-skip : {steps held : List ℕ} {p v : ℕ} → HeldEarly steps held p v → p ≤ getD steps v 0 → HeldEarly steps held p (v + 1)
+early-skip {steps} {held} {p} {v} g f =
     record {
       wide = g .wide;
-      ground = below-more _ v (g .ground) (λ z. absurd (omega arith));
+      early = below-more _ v (g .early) (λ z. absurd (omega arith));
       only = λ u k. let o = g .only u k in (omega (arith, o .0), o .1);
     }
 
@@ -160,13 +160,13 @@ module _ {graph differences steps : List ℕ} {p n m : ℕ} where
 -- between two sweeps: the nodes of a step below the shift are marked, and only what is held is
 pub record Marks (graph differences steps held : List ℕ) (p n m : ℕ) : Type 0 where
   pub wide : length held ≡ 256
-  pub ground : (v : ℕ) → v < n → getD steps v 0 < p → heldIn held v ≡ true
+  pub early : (v : ℕ) → v < n → getD steps v 0 < p → heldIn held v ≡ true
   pub only : OnlyHeld graph differences steps held p n m
 
 module _ {graph differences steps : List ℕ} {p n m : ℕ} where
-  pub marks-first : {held : List ℕ} → HeldGround steps held p n → Marks graph differences steps held p n m
+  pub marks-first : {held : List ℕ} → HeldEarly steps held p n → Marks graph differences steps held p n m
   marks-first z =
-      record { wide = z .wide; ground = z .ground; only = λ v k. let o = z .only v k in ground-in v (o .0) (o .1) }
+      record { wide = z .wide; early = z .early; only = λ v k. let o = z .only v k in early-in v (o .0) (o .1) }
 
   -- a sweep that marks something
   pub marks-again : {held more : List ℕ} → Marks graph differences steps held p n m → Swept graph differences steps held more p n m 0 n true
@@ -175,7 +175,7 @@ module _ {graph differences steps : List ℕ} {p n m : ℕ} where
       let g = w .marked in (
         record {
           wide = g .0 .wide ∙ k .wide;
-          ground = λ v l z. g .0 .still v (k .ground v l z);
+          early = λ v l z. g .0 .still v (k .early v l z);
           only = w .only (k .only);
         },
         g .1,
@@ -185,7 +185,7 @@ module _ {graph differences steps : List ℕ} {p n m : ℕ} where
   marks-all : {held : List ℕ} → Marks graph differences steps held p n m
       → ((v : ℕ) → v < n → Holdable graph differences steps held p m v → heldIn held v ≡ true)
       → (v : ℕ) → HeldIn graph differences steps p n m v → heldIn held v ≡ true
-  marks-all k t v (ground-in u l e) = k .ground v l e
+  marks-all k t v (early-in u l e) = k .early v l e
   marks-all k t v (operand-in u j l h o c) = t v l (inl (j, h, record { holds = marks-all k t (operandIn graph v j) o; close = c }))
   marks-all k t v (target-in i l b o c) =
       t v b (inr (i, record { within = l; into = refl; ties = record { holds = marks-all k t _ o; tight = c } }))

@@ -21,7 +21,7 @@ Tight differences steps p i =
 -- the least held set of n nodes and m differences: a node of a step below the shift, and a node that a held operand or a held difference leaves no
 -- spare shift; nothing else. It is `Held` of the sheet in the tables (`held-in`, `in-held`)
 pub data HeldIn (graph differences steps : List ℕ) (p n m : ℕ) : ℕ → Type 0 where
-  ground-in : (v : ℕ) → v < n → getD steps v 0 < p → HeldIn graph differences steps p n m v
+  early-in : (v : ℕ) → v < n → getD steps v 0 < p → HeldIn graph differences steps p n m v
   operand-in : (v j : ℕ) → v < n → j < countIn graph v → HeldIn graph differences steps p n m (operandIn graph v j) → Close graph steps p v j → HeldIn graph differences steps p n m v
   target-in : (i : ℕ) → i < m → toIn differences i < n → HeldIn graph differences steps p n m (fromIn differences i) → Tight differences steps p i → HeldIn graph differences steps p n m (toIn differences i)
 
@@ -39,9 +39,9 @@ abbrev pub OnlyHeld : (graph differences steps held : List ℕ) (p n m : ℕ) �
 OnlyHeld graph differences steps held p n m = (v : ℕ) → heldIn held v ≡ true → HeldIn graph differences steps p n m v
 
 -- of n nodes those of a step below the shift are marked, and no other
-pub record HeldGround (steps held : List ℕ) (p n : ℕ) : Type 0 where
+pub record HeldEarly (steps held : List ℕ) (p n : ℕ) : Type 0 where
   pub wide : length held ≡ 256
-  pub ground : (v : ℕ) → v < n → getD steps v 0 < p → heldIn held v ≡ true
+  pub early : (v : ℕ) → v < n → getD steps v 0 < p → heldIn held v ≡ true
   pub only : (v : ℕ) → heldIn held v ≡ true → (v < n) × (getD steps v 0 < p)
 
 -- what was marked still is

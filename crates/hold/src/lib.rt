@@ -9,7 +9,7 @@ ghost use Rattle.rows.specs.Cells.{Ends};
 ghost use Rattle.rows.specs.Table.{Falling};
 ghost use Rattle.bound.specs.Lookup.{Soon, Linked};
 ghost use Rattle.bound.specs.Bound.{Summed};
-ghost use Rattle.hold.specs.Mark.{HeldGround, ByOperand, Ties, ByDifference, Holdable, NodeHeld, Swept, AllMarked, Floats};
+ghost use Rattle.hold.specs.Mark.{HeldEarly, ByOperand, Ties, ByDifference, Holdable, NodeHeld, Swept, AllMarked, Floats};
 use bound::Steps;
 use bound::ready_step;
 use bound::step_of;
@@ -20,9 +20,9 @@ use rows::difference_in;
 use rows::operand_in;
 
 // Holds the nodes of a step below the shift, and no other.
-pub fn hold_ground(steps: &Steps, held: &mut [u8; 256], n: u32, shift: u32)
+pub fn hold_early(steps: &Steps, held: &mut [u8; 256], n: u32, shift: u32)
     requires { ⌜ n ≤ 256 ⌝ }
-    ensures { λ _. ⌜ HeldGround (now (steps .entry)) (now (held .exit)) shift n ⌝ }
+    ensures { λ _. ⌜ HeldEarly (now (steps .entry)) (now (held .exit)) shift n ⌝ }
 {
     *held = [0; 256];
     let mut v: u32 = 0;
@@ -257,7 +257,7 @@ pub fn floats(
     ensures { λ r. ⌜ Floats (now (graph .entry)) (now (differences .entry)) (now (steps .entry)) shift n m r ⌝ }
 {
     let mut held = [0u8; 256];
-    hold_ground(steps, &mut held, n, shift);
+    hold_early(steps, &mut held, n, shift);
     while hold_up(
         graph,
         differences,

@@ -9,7 +9,7 @@ use Rattle.maps.specs.Label.{Label}
 use Rattle.maps.specs.Sheet.{Sheet, Window, size}
 use Rattle.maps.specs.WellFormed.{WellFormed}
 use Rattle.maps.specs.Legal.{NoneLegal, Least}
-use Rattle.maps.specs.Least.{at, Labels, Answer, none, some, leastWithin, leastEver}
+use Rattle.maps.specs.Least.{at, Labels, least, Answer, none, some, leastWithin, leastEver}
 use Rattle.maps.specs.Plan.{plan}
 use Rattle.maps.specs.Outcome.{refusal, within, timed, windowed, labelled, cutless}
 use Rattle.maps.proofs.Fix.{is-least, is-late}
@@ -27,6 +27,13 @@ module _ (S : Sheet) where
       go : (ws : List Window) → S .windows ≡ ws → labelled S room ws ≡ windowed S room (leastWithin S (S .horizon))
       go [] e = absurd (f e)
       go (w ∷ ws) e = refl
+
+  -- labels that are computed within H are the least legal ones
+  pub within-least : WellFormed S → cutless S ≡ [] → (L : List Label) → leastWithin S (S .horizon) ≡ least L → Least S (S .horizon) (at L)
+  within-least well cuts L e = go (subst (Answer S (S .horizon)) e (least-right S well cuts (S .horizon)))
+    where
+      go : Answer S (S .horizon) (least L) → Least S (S .horizon) (at L)
+      go (some n h) = h
 
   module _ (well : WellFormed S) (cuts : cutless S ≡ []) (entries : S .windows ≡ [] → ⊥) where
     pub entries-late : NoneLegal S (S .horizon) → (room : ℕ) → labelled S room (S .windows) ≡ refusal 7 0

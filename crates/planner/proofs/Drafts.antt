@@ -9,10 +9,10 @@ use Rattle.maps.specs.Label.{Label, earliest}
 use Rattle.maps.specs.Sheet.{Sheet, size, latency}
 use Rattle.maps.specs.Cut.{logicNode}
 use Rattle.maps.specs.Legal.{CarryingCut, Legal, planLatency}
-use Rattle.maps.specs.Least.{at, inTime, least, leastEver}
+use Rattle.maps.specs.Least.{at, inTime, Labels, least, leastWithin, leastEver}
 use Rattle.maps.specs.Plan.{plan}
 use Rattle.maps.specs.Read.{Header}
-use Rattle.maps.specs.Outcome.{refusal, within, withinHorizon, timed, cutless}
+use Rattle.maps.specs.Outcome.{refusal, within, withinHorizon, timed, windowed, labelled, cutless}
 use Rattle.maps.proofs.Planned.{latency-in-time, legal-carries}
 use Rattle.maps.proofs.Over.{getD-over}
 use Rattle.rows.specs.Code.{headerMeant}
@@ -22,11 +22,12 @@ use Rattle.bound.specs.Lookup.{labelIn, labelsIn, Soon}
 use Rattle.bound.specs.Going.{Given, AllKept}
 use Rattle.level.specs.Cuts.{Lowest}
 use Rattle.never.proofs.Horizons.{ever-least, in-time}
+use Rattle.never.proofs.Entries.{plain-labelled, entries-labelled, within-least}
 use Rattle.maps.specs.Limits.{leavesRange, horizonRange}
 use Rattle.cover.specs.Cover.{Covered}
 use Rattle.writing.specs.Bytes.{Small, flatPlan}
 use Rattle.writing.proofs.PlanBytes.{plan-bytes}
-use Rattle.timing.specs.Timing.{Times, is-never, is-late, is-in-time}
+use Rattle.timing.specs.Timing.{Times, is-never, is-late, is-in-time, is-past, is-within}
 use Rattle.timing.specs.declared.Timing.the-variants as Is
 use Rattle.planner.specs.Call.{Own}
 
@@ -100,27 +101,37 @@ module _ {S : Sheet} {graph differences : List ℕ} {limits : R.Header} (steps l
   nodes-are : labels ≡ labelsIn (size S) steps levels
   nodes-are = ap (λ (n : ℕ). labelsIn n steps levels) (g .nodes)
 
-  -- the outcome of least labels, by whether they are in time
-  tested : leastEver S ≡ least labels → (b : Bool) → inTime S labels (limits .horizon) ≡ b → (room : ℕ)
-      → timed S room (leastEver S) ≡ withinHorizon S room labels b
-  tested e b q room = ap (timed S room) e ∙ ap (withinHorizon S room labels) (ap (inTime S labels) (sym own) ∙ q)
+  -- without entries: the outcome of least labels, by whether they are in time
+  tested : S .windows ≡ [] → leastEver S ≡ least labels → (b : Bool) → inTime S labels (limits .horizon) ≡ b → (room : ℕ)
+      → labelled S room (S .windows) ≡ withinHorizon S room labels b
+  tested o e b q room = plain-labelled S o room ∙ ap (timed S room) e ∙ ap (withinHorizon S room labels) (ap (inTime S labels) (sym own) ∙ q)
 
-  pub never-outcome : Times S (limits .horizon) labels Is.Never → (room : ℕ) → timed S room (leastEver S) ≡ refusal 12 0
-  never-outcome (is-never e) room = ap (timed S room) e
+  -- with entries: the labels within H
+  own-labels : {r : Labels} → leastWithin S (limits .horizon) ≡ r → leastWithin S (S .horizon) ≡ r
+  own-labels e = ap (leastWithin S) (sym own) ∙ e
 
-  pub late-outcome : Times S (limits .horizon) labels Is.Late → (room : ℕ) → timed S room (leastEver S) ≡ refusal 7 0
-  late-outcome (is-late e q) = tested e false q
+  pub never-outcome : Times S (limits .horizon) labels Is.Never → (room : ℕ) → labelled S room (S .windows) ≡ refusal 12 0
+  never-outcome (is-never o e) room = plain-labelled S o room ∙ ap (timed S room) e
+
+  pub late-outcome : Times S (limits .horizon) labels Is.Late → (room : ℕ) → labelled S room (S .windows) ≡ refusal 7 0
+  late-outcome (is-late o e q) room = tested o e false q room
+  late-outcome (is-past o e) room = entries-labelled S o room ∙ ap (windowed S room) (own-labels e)
 
   -- p is the plan of labels in time, which are legal
   pub found-outcome : Times S (limits .horizon) labels Is.InTime → (p : List ℕ) → p ≡ plan S (labelsIn (size S) steps levels) → (room : ℕ)
-      → timed S room (leastEver S) ≡ within room p
-  found-outcome (is-in-time e q) p r room =
-      tested e true q room ∙ ap (λ (L : List Label). within room (plan S L)) nodes-are ∙ ap (within room) (sym r)
+      → labelled S room (S .windows) ≡ within room p
+  found-outcome t p r room = planned t ∙ ap (λ (L : List Label). within room (plan S L)) nodes-are ∙ ap (within room) (sym r)
+    where
+      planned : Times S (limits .horizon) labels Is.InTime → labelled S room (S .windows) ≡ within room (plan S labels)
+      planned (is-in-time o e q) = tested o e true q room
+      planned (is-within o e) = entries-labelled S o room ∙ ap (windowed S room) (own-labels e)
 
   pub found-legal : cutless S ≡ [] → Times S (limits .horizon) labels Is.InTime → Legal S (at (labelsIn (size S) steps levels)) (S .horizon)
-  found-legal cuts (is-in-time e q) =
-      subst (λ (L : List Label). Legal S (at L) (S .horizon)) nodes-are
-      (in-time S (g .well) cuts labels (ever-least S (g .well) cuts labels e) (S .horizon) (ap (inTime S labels) (sym own) ∙ q) .legal)
+  found-legal cuts t = subst (λ (L : List Label). Legal S (at L) (S .horizon)) nodes-are (legal t)
+    where
+      legal : Times S (limits .horizon) labels Is.InTime → Legal S (at labels) (S .horizon)
+      legal (is-in-time o e q) = in-time S (g .well) o cuts labels (ever-least S (g .well) o cuts labels e) (S .horizon) (ap (inTime S labels) (sym own) ∙ q) .legal
+      legal (is-within o e) = within-least S (g .well) cuts labels (own-labels e) .legal
 
 -- every logic node has a fitting cut, which is kept
 pub all-cut : {S : Sheet} {graph differences kept : List ℕ} {limits : R.Header} {r : ℕ} → Given S graph differences limits

@@ -5,9 +5,9 @@ ghost use Prim.Native.Nat.{ℕ, _≤_};
 ghost use lib.ListN.{length, take};
 ghost use Rattle.maps.specs.Sheet.{Sheet, size};
 ghost use Rattle.maps.specs.Legal.{Legal};
-ghost use Rattle.maps.specs.Least.{at, leastEver};
+ghost use Rattle.maps.specs.Least.{at};
 ghost use Rattle.maps.specs.Plan.{plan};
-ghost use Rattle.maps.specs.Outcome.{timed, cutless, covered, outcome};
+ghost use Rattle.maps.specs.Outcome.{labelled, cutless, covered, outcome};
 ghost use Rattle.rows.specs.Table.{Falling};
 ghost use Rattle.bound.specs.Lookup.{labelsIn};
 ghost use Rattle.bound.specs.Going.{Given, AllKept};
@@ -75,7 +75,7 @@ pub fn plan_kept(
     requires { ⌜ ((S : Sheet) × Given S (now graph) (now differences) limits × Own S limits × AllKept S (now kept) × (cutless S ≡ [])) ⌝ }
     requires { ⌜ length (now bytes) ≡ planMost ⌝ }
     ensures { λ r. ⌜ ((S : Sheet) → Given S (now (graph .entry)) (now (differences .entry)) limits → Own S limits → AllKept S (now (kept .entry)) → cutless S ≡ []
-        → (room : ℕ) → timed S room (leastEver S) ≡ madeMeant (now (bytes .exit)) r room) ⌝ }
+        → (room : ℕ) → labelled S room (S .windows) ≡ madeMeant (now (bytes .exit)) r room) ⌝ }
     ensures { λ r. ⌜ Short r ⌝ }
 {
     let mut steps = [0u32; 256];

@@ -15,10 +15,22 @@ pub extern "C" fn maps_write_rows(
     nodes: &[u32],
     operands: &[u32],
     differences: &[u32],
+    period: u32,
+    windows: &[u32],
     buffer: &mut [u8],
 ) -> Answer
-    ensures { λ r. ⌜ Answered (writing (recordsIn leaves top horizon (now (nodes .entry)) (now (operands .entry)) (now (differences .entry))) (length (now (buffer .entry))))
+    ensures { λ r. ⌜ Answered (writing (recordsIn leaves top horizon (now (nodes .entry)) (now (operands .entry)) (now (differences .entry)) period (now (windows .entry))) (length (now (buffer .entry))))
         (r .number) (r .place) (now (buffer .entry)) (now (buffer .exit)) ⌝ }
 {
-    answer_of(write(leaves, top, horizon, nodes, operands, differences, buffer))
+    answer_of(write(
+        leaves,
+        top,
+        horizon,
+        nodes,
+        operands,
+        differences,
+        period,
+        windows,
+        buffer,
+    ))
 }

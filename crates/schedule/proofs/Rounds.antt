@@ -32,7 +32,7 @@ use Rattle.relax.specs.Guard.{Kept}
 use Rattle.relax.specs.Settle.{Pass, Passing}
 use Rattle.relax.specs.Sweep.{Sweeping}
 use Rattle.relax.specs.Hold as H
-use Rattle.relax.specs.Hold.{shiftOf, Held, on-ground, by-operand, by-difference}
+use Rattle.relax.specs.Hold.{shiftOf, Held, early, by-operand, by-difference}
 use Rattle.relax.proofs.Closed.{Closed, well-closed, inside}
 use Rattle.relax.proofs.Guard.{legal-node, legal-diffs, ok-legal}
 use Rattle.relax.proofs.Forced.{ok-same}
@@ -46,7 +46,7 @@ use Rattle.bound.specs.Bound.{HoldsAt}
 use Rattle.bound.specs.Going.{Given, AllKept, Timed, Going}
 use Rattle.bound.proofs.Asking.{linked-heeding, linked-heeded}
 use Rattle.bound.proofs.Safety.{node-in, latency-is, delay-is, graph-falls, difference-in, targets, kept-at, holds-at}
-use Rattle.hold.specs.Mark.{HeldIn, ground-in, operand-in, target-in}
+use Rattle.hold.specs.Mark.{HeldIn, early-in, operand-in, target-in}
 use Rattle.hold.proofs.HoldMarks.{not-both}
 use Rattle.pass.specs.Turn.{Passed}
 use Rattle.pass.specs.declared.Course.{Course}
@@ -169,7 +169,7 @@ module _ {S : Sheet} {graph differences : List ℕ} {limits : R.Header} (g : Giv
     HeldAt v = HeldIn graph differences steps (shiftIn limits) (limits .nodes) (limits .differences) v
 
     pub held-in : (v : ℕ) → HeldAt v → Held S (shiftIn limits) (labelIn steps levels) v
-    held-in v (ground-in u l e) = on-ground v (node-in g v l .0) e
+    held-in v (early-in u l e) = early v (node-in g v l .0) e
     held-in v (operand-in u j l h o c) =
         let w = node-in g v l in
         let k : j < length (node S v .operands) = omega (arith, g .tabled .counts v (w .1)) in
@@ -212,7 +212,7 @@ module _ {S : Sheet} {graph differences : List ℕ} {limits : R.Header} (g : Giv
         (omega (arith, ap (λ (x : ℕ). getD steps x 0) from, ap (λ (x : ℕ). getD steps x 0) to, g .listed .pluses i l, g .listed .minuses i l)))
 
     pub in-held : (v : ℕ) → Held S (shiftIn limits) (labelIn steps levels) v → HeldAt v
-    in-held v (on-ground u l e) = ground-in v (omega (arith, g .nodes)) e
+    in-held v (early u l e) = early-in v (omega (arith, g .nodes)) e
     in-held v (by-operand w u l r k near) =
         All-at (Pulls v) (node S v .operands) (All-ids (Pulls v) 0 (node S v .operands) (λ j h. operand v l j h)) (mem-out u (node S v .operands) r)
         (in-held u k) near

@@ -16,7 +16,7 @@ abbrev μ-loop : tie.MeasureT-loop
 μ-loop graph differences first next steps n m shift held₀ held = zeros held
 
 loop-holds : tie.Need-loop-holds Inv-loop μ-loop
-loop-holds c = marks-first (c .hold-ground .ensures)
+loop-holds c = marks-first (c .hold-early .ensures)
 
 hold-up-requires : tie.Need-hold-up-requires Inv-loop μ-loop
 hold-up-requires c κs =
