@@ -139,8 +139,8 @@ pub fn open_label(graph: &Graph, v: u32, period: u32, a: Label) -> Label
     if step.0 == own.0 {
         return a;
     }
-    let delay = delay_in(graph, v);
-    Label::at(step, delay)
+    let level = delay_in(graph, v);
+    Label::at(step, level)
 }
 
 // The least level of step s by which a has come, or top + 1.

@@ -105,10 +105,10 @@ pub fn time_labels(
     if limits.windows == 0 {
         return time_ever(graph, differences, limits, kept, steps, levels);
     }
-    if !least_labels(graph, differences, limits, kept, steps, levels) {
-        return Timing::Late;
+    if least_labels(graph, differences, limits, kept, steps, levels) {
+        return Timing::InTime;
     }
-    Timing::InTime
+    Timing::Late
 }
 
 // The ready step of u if it is an output, otherwise 0.

@@ -1,8 +1,7 @@
 -- `timing::time_labels` meets its contract.
-use borrow.Author.Tests.{not-true, not-false}
 use borrow.Author.Needs.{needs}
 use native.Mathlib.Omega.{arith}
-use Rattle.timing.specs.Timing.{is-past, is-within}
+use Rattle.timing.specs.Timing.{is-within, is-past}
 use Rattle.timing.proofs.Far.{some-entries}
 use Rattle.timing.proofs.time_labels.Statement.{statement}
 use Rattle.timing.proofs.time_labels.Tie as tie
@@ -20,13 +19,13 @@ returns-2 : tie.Need-returns-2
 returns-2 c S g k cuts =
     let e = c .before .least-labels in
     let n = c .before .before .before .before .before in
-    is-past (some-entries g (omega (arith, n .if1 .left))) (rw (not-true (e .result) (c .if2 .taken)) at (e .ensures S g k cuts))
+    is-within (some-entries g (omega (arith, n .if1 .left))) (rw (c .if2 .taken) at (e .ensures S g k cuts))
 
 returns-3 : tie.Need-returns-3
 returns-3 c S g k cuts =
     let e = c .before .least-labels in
     let n = c .before .before .before .before .before in
-    is-within (some-entries g (omega (arith, n .if1 .left))) (rw (not-false (e .result) (c .if2 .left)) at (e .ensures S g k cuts))
+    is-past (some-entries g (omega (arith, n .if1 .left))) (rw (c .if2 .left) at (e .ensures S g k cuts))
 
 pub time-labels-spec : {M : Type 1} → statement M
 time-labels-spec = tie.close (tie.spec time-ever-requires returns least-labels-requires returns-2 returns-3)
