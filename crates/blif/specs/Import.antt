@@ -1,8 +1,7 @@
 -- Document 02, U3: the sheet of a model, and the outcome of importing any text with any numbers into any buffer.
 use Prim.Native.Nat.{ℕ, suc}
 use mathlib.Core.Bool.{Bool, true, false, cond, _&&_, not}
-use mathlib.Core.List.{List, [], _∷_, _++_, map}
-use lib.ListN.{length}
+use mathlib.Core.List.{List, [], _∷_, map}
 use Rattle.maps.specs.Lists.{any, keep, equal}
 use Rattle.maps.specs.Sheet.{Sheet, Node, isLogic}
 use Rattle.maps.specs.Write.{spelling}

@@ -5,11 +5,9 @@ use mathlib.Core.Bool.{Bool, true, false, cond}
 use mathlib.Core.List.{List, [], _∷_}
 use native.Mathlib.Omega.{arith}
 use lib.Dec.{eqb}
-use lib.ListN.{length}
 use borrow.Author.Tests.{eq-eqb, ne-eqb, eqb-true}
 use Rattle.maps.specs.Lists.{All}
-use Rattle.maps.specs.Label.{Label}
-use Rattle.maps.specs.Sheet.{Sheet, Window, windowIn, boxIn, size}
+use Rattle.maps.specs.Sheet.{Window, windowIn, boxIn, size}
 use Rattle.maps.specs.Window.{Open}
 use Rattle.maps.specs.WellFormed.{WellEntry, Rising}
 use Rattle.maps.proofs.Windows.{whole-open}

@@ -1,14 +1,14 @@
 -- Without entries, whatever the period, the legal labellings are those of before windows, and so is each round of the computed labels.
-use Prim.Native.Nat.{ℕ, _<_}
+use Prim.Native.Nat.{ℕ}
 use mathlib.Core.Path.{_≡_, refl, sym, subst, ap}
 use mathlib.Core.Logic.{_↔_}
 use mathlib.Core.List.{List, [], _∷_}
 use Rattle.maps.specs.Label.{Label, raised, _≼_}
-use Rattle.maps.specs.Sheet.{Sheet, Window, windowIn, node, size, window}
+use Rattle.maps.specs.Sheet.{Sheet, Window, windowIn, node, window}
 use Rattle.maps.specs.Window.{Open}
 use Rattle.maps.specs.WellFormed.{WellFormed}
-use Rattle.maps.specs.Legal.{Legal, Least}
-use Rattle.maps.specs.Least.{askedAt, relaxedAt, leastEver}
+use Rattle.maps.specs.Legal.{Legal}
+use Rattle.maps.specs.Least.{askedAt, relaxedAt}
 use Rattle.maps.specs.Outcome.{labelled, covered}
 use Rattle.maps.proofs.Order.{≼-refl}
 use Rattle.maps.proofs.Windows.{whole-open, opened-from, opened-least}

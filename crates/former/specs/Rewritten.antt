@@ -12,7 +12,7 @@ use Rattle.maps.specs.Least.{relaxedAt}
 use Rattle.maps.specs.Read.{Parsed, sheet, parse}
 use Rattle.maps.specs.Outcome.{outcome}
 use Rattle.former.specs.Plain.{Plain, plainAt, plainParsed}
-use Rattle.former.specs.Former.{formerParse, formerSpelling, unwindowedSpelling, formerReady}
+use Rattle.former.specs.Former.{formerSpelling, unwindowedSpelling, formerReady}
 
 -- the sheet has P = 1 and no entries
 pub record WithoutWindows (S : Sheet) : Type 0 where

@@ -1,7 +1,7 @@
 -- Records whose numbers pass are those of their sheet, and a well-formed sheet is that of its records, whose numbers pass.
 use Prim.Native.Nat.{ℕ, zero, suc, _+_, _*_, _≤_, _<_}
 use mathlib.Core.Path.{_≡_, refl, subst, ap}
-use mathlib.Core.Bool.{Bool, true, false, cond, _&&_}
+use mathlib.Core.Bool.{Bool, true, false, cond}
 use mathlib.Core.List.{List, [], _∷_, _++_, map}
 use mathlib.Core.Logic.{_⊎_, inl, inr, _↔_}
 use native.Mathlib.Omega.{arith}
@@ -12,7 +12,7 @@ use lib.ListN.{length, getD, length-map}
 use borrow.Author.Tests.{le-leb, lt-ltb}
 use Rattle.maps.specs.Lists.{All, concat}
 use Rattle.maps.specs.Sheet.{Sheet, Kind, input, logic, box, Node, Difference, noNode, Window, boxIn, latencyOf, clockToQOf}
-use Rattle.maps.specs.Limits.{Range, kindRange, markRange, idRange, weightMost, weightRange, rangesOf, periodRange, boxRange, fromRange, toRange}
+use Rattle.maps.specs.Limits.{Range, kindRange, markRange, idRange, weightMost, weightRange, rangesOf, boxRange, fromRange, toRange}
 use Rattle.maps.specs.Form.{among, boxed, under, passes}
 use Rattle.maps.specs.Read.{kindOf, nextId}
 use Rattle.maps.specs.WellFormed.{Within, codeOf, WellNode, WellDifference, WellEntry, Rising, WellFormed}

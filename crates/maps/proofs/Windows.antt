@@ -1,4 +1,4 @@
--- The next open step: it is open, not before, the least such; it rises with the step and moves with whole periods.
+-- Open steps, and the next open step: it is open, not before, and the least such.
 use Prim.Native.Nat.{ℕ, suc, _+_, _-_, _*_, _/_, _%_, _≤_, _<_}
 use mathlib.Core.Path.{_≡_, refl, sym, subst, ap, _∙_}
 use mathlib.Core.Bool.{Bool, true, false, cond}
@@ -7,13 +7,13 @@ use mathlib.Core.Logic.{_⊎_, inl, inr}
 use native.Mathlib.Omega.{arith}
 use native.Mathlib.Nat.{mul-le-mul-right, suc-mul, mod-lt, mod-eq-of-lt, mul-add-mod-self-right, add-mul-mod-self-right, div-add-mod'}
 use lib.Dec.{leb, ltb, eqb}
-use borrow.Author.Tests.{leb-true, leb-false, ltb-true, ltb-false, le-leb, lt-ltb, le-ltb, eqb-true, eqb-false, ne-eqb}
+use borrow.Author.Tests.{leb-true, leb-false, ltb-true, ltb-false, le-leb, lt-ltb, le-ltb, ne-eqb}
 use Rattle.maps.specs.Lists.{All}
 use Rattle.maps.specs.Label.{Label, label, _≼_, later}
-use Rattle.maps.specs.Sheet.{Sheet, Window, whole, windowIn, window}
-use Rattle.maps.specs.Window.{between, Open, isOpen, WellWindow, nextAfter, nextOpen, opened}
+use Rattle.maps.specs.Sheet.{Window, whole, windowIn, window}
+use Rattle.maps.specs.Window.{between, Open, isOpen, WellWindow, nextOpen, opened}
 use Rattle.maps.proofs.Over.{and-true}
-use Rattle.maps.proofs.Order.{≼-refl, ≼-trans, later-is, later-left, later-case}
+use Rattle.maps.proofs.Order.{later-is, later-left, later-case}
 
 -- the test decides
 pub open-true : {p : ℕ} {w : Window} {s : ℕ} → isOpen p w s ≡ true → Open p w s
@@ -24,11 +24,7 @@ open-true {p} {w} {s} e =
 pub true-open : {p : ℕ} {w : Window} {s : ℕ} → Open p w s → isOpen p w s ≡ true
 true-open {p} {w} {s} h = rw (le-leb (w .from) (s % p) (h .least), lt-ltb (s % p) (w .to) (h .most))
 
--- open steps move with whole periods
-pub open-later : (p : ℕ) (w : Window) (s k : ℕ) → Open p w s → Open p w (s + k * p)
-open-later p w s k h =
-    record { least = omega (arith, add-mul-mod-self-right s k p, h .least); most = omega (arith, add-mul-mod-self-right s k p, h .most) }
-
+-- what is open stays so by whole periods earlier
 pub open-sooner : (p : ℕ) (w : Window) (s k : ℕ) → Open p w (s + k * p) → Open p w s
 open-sooner p w s k h =
     record { least = omega (arith, add-mul-mod-self-right s k p, h .least); most = omega (arith, add-mul-mod-self-right s k p, h .most) }
@@ -99,34 +95,6 @@ module _ (p : ℕ) (w : Window) (ok : WellWindow p w) where
           pick : (b : Bool) → leb (suc (s / p)) (t / p) ≡ b → n ≤ t
           pick true q = omega (arith, mul-le-mul-right p (leb-true (suc (s / p)) (t / p) q), div-add-mod' t p, h .least)
           pick false q = absurd (omega (arith, earlier (suc (s / p)) (t / p) q, suc-mul (s / p) p, div-add-mod' t p, div-add-mod' s p, h .most))
-
-  pub next-mono : (s t : ℕ) → s ≤ t → nextOpen p w s ≤ nextOpen p w t
-  next-mono s t l = next-least s (nextOpen p w t) (omega (arith, next-from t)) (next-open t)
-
-  -- an open step is its own
-  pub next-own : (s : ℕ) → Open p w s → nextOpen p w s ≡ s
-  next-own s h = omega (arith, next-from s, next-least s s (omega arith) h)
-
--- a closed step is before the next open one
-pub next-past : (p : ℕ) (w : Window) → WellWindow p w → (s : ℕ) → isOpen p w s ≡ false → s < nextOpen p w s
-next-past p w ok s f = go (eqb (nextOpen p w s) s) refl
-  where
-    go : (t : Bool) → eqb (nextOpen p w s) s ≡ t → s < nextOpen p w s
-    go true e =
-        let o : isOpen p w s ≡ true = true-open (subst (Open p w) (eqb-true (nextOpen p w s) s e) (next-open p w ok s)) in
-        let z : _≡_ {A = ℕ} 0 1 = cc in absurd (omega arith)
-    go false e = omega (arith, next-from p w ok s, eqb-false (nextOpen p w s) s e)
-
--- and the next open step moves with whole periods
-pub next-shift : (p : ℕ) (w : Window) (s k : ℕ) → nextOpen p w (s + k * p) ≡ nextOpen p w s + k * p
-unfolding nextOpen
-next-shift p w s k = ap (λ (r : ℕ). nextAfter p w r (s + k * p)) (add-mul-mod-self-right s k p) ∙ go (ltb (s % p) (w .from)) (ltb (s % p) (w .to))
-  where
-    go : (x y : Bool)
-        → cond x (s + k * p + (w .from - s % p)) (cond y (s + k * p) (s + k * p + (p - s % p) + w .from)) ≡ cond x (s + (w .from - s % p)) (cond y s (s + (p - s % p) + w .from)) + k * p
-    go true y = omega arith
-    go false true = refl
-    go false false = omega arith
 
 -- a label moved to an open step: from the label on, in the next open step, and the least such
 module _ (p : ℕ) (w : Window) (a : Label) where

@@ -2,7 +2,7 @@
 use Prim.Native.Nat.{ℕ, _+_, _*_}
 use mathlib.Core.List.{List, [], _∷_}
 use Rattle.maps.specs.Number.{bytesFor}
-use Rattle.maps.specs.Limits.{leavesRange, topRange, horizonRange, sizeRange, countRange, kindRange, markRange, idRange, weightRange, operandsMost, latencyMost, periodRange, windowsRange}
+use Rattle.maps.specs.Limits.{leavesRange, topRange, horizonRange, sizeRange, countRange, kindRange, markRange, idRange, weightRange, operandsMost, latencyMost, periodRange}
 use Rattle.maps.specs.Form.{Rule, among, boxed, under}
 use Rattle.maps.specs.Write.{Entry}
 

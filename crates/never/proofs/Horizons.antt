@@ -1,5 +1,5 @@
--- The labels of any horizon, of a sheet without windows: `leastEver` gives the least legal labels, or says late, and then nothing is legal under any horizon. Where they are in
--- time for a horizon they are the least legal ones within it; where not, nothing is legal within it, but within a larger one.
+-- The labels of any horizon, of a sheet without entries: `leastEver` gives the least legal labels, or says late, and then nothing is legal under any
+-- horizon. Where they are in time for a horizon they are the least legal ones within it; where not, nothing is legal within it, but within a larger one.
 use Prim.Native.Nat.{ℕ, _+_, _≤_, _<_}
 use mathlib.Core.Path.{_≡_, refl, sym, subst, ap}
 use mathlib.Core.Bool.{Bool, true, false}

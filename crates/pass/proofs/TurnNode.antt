@@ -11,7 +11,7 @@ use borrow.Author.Tests.{eqb-true, eqb-false}
 use Rattle.maps.specs.Label.{Label, _≼_}
 use Rattle.maps.specs.Lists.{All}
 use Rattle.maps.specs.Sheet.{Sheet, Kind, input, logic, box, node, size, window, isLogic}
-use Rattle.maps.specs.Window.{between, nextOpen, openLabel}
+use Rattle.maps.specs.Window.{between, openLabel}
 use Rattle.maps.specs.Cut.{logicNode}
 use Rattle.maps.specs.WellFormed.{WellFormed}
 use Rattle.maps.proofs.Member.{All-of, All-ids, All-get}

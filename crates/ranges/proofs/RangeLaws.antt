@@ -1,5 +1,5 @@
 -- The code's tables of field ranges are document 01's.
-use Prim.Native.Nat.{ℕ, zero, suc, _+_, _-_, _≤_, _<_, min, max}
+use Prim.Native.Nat.{ℕ, zero, suc, _+_, _-_, _≤_, min, max}
 use mathlib.Core.Path.{_≡_, refl, ap, _∙_}
 use native.Mathlib.Omega.{arith}
 use Rattle.maps.specs.Limits.{Range, range, rangesOf, topRange, sizeRange, idRange, periodRange, windowsRange, boxRange, fromRange, toRange}

@@ -1,5 +1,5 @@
 -- What stands in a table of nodes into which windows are stored, each in the row of its node.
-use Prim.Native.Nat.{ℕ, zero, suc, _+_, _*_, _≤_, _<_}
+use Prim.Native.Nat.{ℕ, _+_, _≤_, _<_}
 use mathlib.Core.Path.{_≡_, refl, sym, ap, _∙_}
 use mathlib.Core.Bool.{Bool, true, false, cond}
 use mathlib.Core.List.{List, [], _∷_}
@@ -11,7 +11,7 @@ use borrow.Author.Tests.{eqb-true, eqb-false, ne-eqb, ltb-true, ltb-false}
 use Rattle.maps.specs.Lists.{All}
 use Rattle.maps.specs.Sheet.{Window, whole, windowIn}
 use Rattle.maps.specs.WellFormed.{WellEntry, Rising}
-use Rattle.rows.specs.Table.{nodeStride, nodesWide, nodePlace, windowPlace, windowRow, storeFrom, storeWindows, openIn, closeIn, closing}
+use Rattle.rows.specs.Table.{nodesWide, nodePlace, windowPlace, windowRow, storeFrom, storeWindows, openIn, closeIn, closing}
 use Rattle.rows.proofs.StoredRows.{store-length, store-before, store-after, store-at}
 
 pub windows-length : (g : List ℕ) (ws : List Window) → length (storeWindows g ws) ≡ length g

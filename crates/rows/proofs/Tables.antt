@@ -16,7 +16,7 @@ use Rattle.maps.specs.WellFormed.{Within, codeOf, WellNode, WellFormed}
 use Rattle.maps.proofs.Member.{All-ids, All-get, everywhere}
 use Rattle.maps.proofs.Planned.{operands-below}
 use Rattle.maps.proofs.RecordLaws.{mark-again}
-use Rattle.rows.specs.Table.{nodeStride, differenceStride, nodesWide, differencesWide, nodeRow, differenceRow, noDifference, nodesOf, graphOf, differencesOf, kindAt, markIn, openIn, closeIn, closing, Tabled, Falling, Listed}
+use Rattle.rows.specs.Table.{nodeStride, differenceStride, nodesWide, differencesWide, nodeRow, differenceRow, noDifference, nodesOf, graphOf, differencesOf, kindAt, markIn, openIn, closing, Tabled, Falling, Listed}
 use Rattle.rows.proofs.StoredRows.{stored-length, stored-at, stored-gap, stored-past}
 use Rattle.rows.proofs.StoredWindows.{windows-length, windows-beside, window-stored}
 

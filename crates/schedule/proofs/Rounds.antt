@@ -11,7 +11,7 @@ use lib.ListN.{length, getD, set, replicate, length-set, length-replicate}
 use lib.Seq.{getD-set-same, getD-set-other}
 use borrow.Author.Count.{below-more}
 use borrow.Author.Tests.{leb-true, leb-false}
-use Rattle.maps.specs.Limits.{periodRange, weightMost}
+use Rattle.maps.specs.Limits.{periodRange}
 use Rattle.maps.specs.Label.{Label, label, _≼_}
 use Rattle.maps.specs.Lists.{All, below}
 use Rattle.maps.specs.WellFormed.{WellDifference}

@@ -1,5 +1,4 @@
 -- `timing::time_labels` meets its contract.
-use borrow.Author.Needs.{needs}
 use native.Mathlib.Omega.{arith}
 use Rattle.timing.specs.Timing.{is-within, is-past}
 use Rattle.timing.proofs.Far.{some-entries}

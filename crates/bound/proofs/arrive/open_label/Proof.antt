@@ -1,8 +1,8 @@
 -- `arrive::open_label` meets its contract.
 use Prim.Native.Nat.{ℕ}
-use mathlib.Core.Path.{_≡_, ap, _∙_}
+use mathlib.Core.Path.{ap, _∙_}
 use Rattle.maps.specs.Label.{label}
-use Rattle.maps.specs.Window.{between, nextOpen}
+use Rattle.maps.specs.Window.{between}
 use Rattle.maps.proofs.Windows.{next-fields}
 use Rattle.types.specs.Code.{labelOf}
 use Rattle.rows.specs.Table.{openIn, closing, delayIn}

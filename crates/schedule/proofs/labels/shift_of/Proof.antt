@@ -1,5 +1,4 @@
 -- `labels::shift_of` meets its contract.
-use mathlib.Core.Path.{refl}
 use Rattle.schedule.proofs.Rounds.{shift-some}
 use Rattle.schedule.proofs.labels.shift_of.Statement.{statement}
 use Rattle.schedule.proofs.labels.shift_of.Tie as tie

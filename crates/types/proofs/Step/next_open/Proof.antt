@@ -1,5 +1,5 @@
 -- `Step::next_open` meets its contract.
-use Prim.Native.Nat.{_+_, _%_, _<_}
+use Prim.Native.Nat.{_<_}
 use native.Mathlib.Omega.{arith}
 use native.Mathlib.Nat.{mod-lt}
 use borrow.Author.Needs.{needs}
