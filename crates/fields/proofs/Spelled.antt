@@ -21,3 +21,7 @@ field-small f e = omega (arith, ap (λ (r : Span). r .high) e, go f)
     go Is.Mark = omega arith
     go Is.Id = omega arith
     go Is.Weight = omega arith
+    go Is.Period = omega arith
+    go Is.Windows = omega arith
+    go Is.From = omega arith
+    go Is.To = omega arith

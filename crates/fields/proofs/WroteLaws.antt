@@ -1,24 +1,25 @@
 -- Laws of what a part of the sheet writer has done.
 use Prim.Native.Nat.{ℕ, zero, suc, _+_, _-_, _*_, _<_, _≤_}
-use mathlib.Core.Path.{_≡_, refl, sym, _∙_}
+use mathlib.Core.Path.{_≡_, refl, sym, ap, _∙_}
 use mathlib.Core.Bool.{Bool, true, false, _&&_}
 use mathlib.Core.List.{List, [], _∷_, _++_, map, append-nil, append-assoc, map-append}
 use native.Mathlib.Omega.{arith}
 use native.Mathlib.Nat.{add-zero, suc-mul, mul-le-mul-right}
 use native.Mathlib.Numerals.{add-one}
 use lib.Dec.{leb}
-use lib.ListN.{length, length-append}
+use lib.ListN.{length, getD, length-append}
 use borrow.Author.Tests.{lt-leb, le-leb, lt-ltb, le-ltb}
 use Rattle.maps.specs.Lists.{All, below, concat}
-use Rattle.maps.specs.Limits.{range, sizeRange}
+use Rattle.maps.specs.Limits.{Range as Span, range, sizeRange}
 use Rattle.maps.specs.Number.{width, encoded, bytesFor}
-use Rattle.maps.specs.Form.{Rule, among, under, passes, ground}
+use Rattle.maps.specs.Form.{Rule, among, boxed, under, passes, ground}
 use Rattle.maps.specs.Sizes.{bytesMost}
 use Rattle.maps.specs.Write.{Entry, entry, Passes, First, valuesOf, spelled}
 use Rattle.maps.proofs.Member.{All-join, All-split}
 use Rattle.maps.proofs.Spelling.{written-length}
 use Rattle.maps.proofs.WrittenSize.{within-bytes, id-bytes, most-append}
 use Rattle.maps.proofs.Numbers.{spelled-append, first-later, first-sooner, concat-snoc}
+use Rattle.types.specs.Code.{numberOf}
 use Rattle.types.specs.declared.Refusal.{Refusal}
 use Rattle.types.specs.declared.Refusal.the-variants.{Range, Operand}
 use Rattle.bytes.specs.Put.{Put}
@@ -39,6 +40,10 @@ and-false : (a : Bool) → (a && false) ≡ false
 and-false true = refl
 and-false false = refl
 
+and-true : (a : Bool) → (a && true) ≡ a
+and-true true = refl
+and-true false = refl
+
 module _ (bytes : List ℕ) (p : Position) (low high x : ℕ) where
   pub wrote-low : x < low → Wrote (entry (among (range low high)) x ∷ []) bytes bytes p (Refused (Range (p .number)))
   wrote-low l = failed 0 (fails-here (among (range low high)) x (rw (lt-leb low x l))) (sym (add-zero (p .number))) refl
@@ -51,6 +56,36 @@ module _ (bytes : List ℕ) (p : Position) (low high x : ℕ) where
   wrote-among after next l h w =
       passed {next = position next (p .number + 1)} (rw (le-leb low x l, le-leb x high h), tt)
       (rw (append-nil (encoded x)) (put-within _ (omega (arith, within-bytes h)) w)) refl
+
+-- the one number of a list is its first that fails
+module _ (e : Entry) where
+  abbrev Fails : (k j : ℕ) → Type 0
+  Fails k j = (passes (e .rule) (e .value) ≡ false) × (ground (e .rule) ≡ k) × (j ≡ 0)
+
+  fails-only : {k j : ℕ} → First (e ∷ []) k j → Fails k j
+  fails-only {k} {j} f = go (f .before) (f .faulty) (f .after) (f .listed) (f .place) (f .fails) (f .number)
+    where
+      go : (bs : List Entry) (x : Entry) (cs : List Entry) → e ∷ [] ≡ bs ++ (x ∷ cs) → length bs ≡ j → passes (x .rule) (x .value) ≡ false
+          → ground (x .rule) ≡ k → Fails k j
+      go [] x cs l p n g = let q : e ≡ x = ap (λ es. getD es 0 e) l in (rw q n, rw q g, sym p)
+      go (b ∷ bs) x cs l p n g = absurd (omega (arith, ap length l, length-append bs (x ∷ cs)))
+
+-- a number that is no box's id, and one that is
+module _ (r : Span) (isBox : ℕ → Bool) (x : ℕ) where
+  pub wrote-no-box : (bytes : List ℕ) (p : Position) → isBox x ≡ false → Wrote (entry (boxed r isBox) x ∷ []) bytes bytes p (Refused (Range (p .number)))
+  wrote-no-box bytes p e =
+      failed 0 (fails-here (boxed r isBox) x (rw e (and-false (leb (r .low) x && leb x (r .high))))) (sym (add-zero (p .number))) refl
+
+  box-passes : isBox x ≡ true → {b : Bool} → passes (among r) x ≡ b → passes (boxed r isBox) x ≡ b
+  box-passes e {b} h = rw (h, e) (and-true b)
+
+  pub wrote-box : isBox x ≡ true → {a b : List ℕ} {p : Position} {q : Progress} → Wrote (entry (among r) x ∷ []) a b p q → Wrote (entry (boxed r isBox) x ∷ []) a b p q
+  wrote-box e (passed {next = next} good f n) = passed {next = next} (box-passes e (good .0), tt) f n
+  wrote-box e (failed {w = w} j f q l) =
+      let h = fails-only (entry (among r) x) f in
+      let g : First (entry (boxed r isBox) x ∷ []) (numberOf w) 0 =
+      record { before = []; faulty = entry (boxed r isBox) x; after = []; listed = refl; place = refl; good = tt; fails = box-passes e (h .0); number = h .1 } in
+      failed {w = w} 0 g (omega (arith, h .2)) l
 
 module _ (bytes : List ℕ) (p : Position) (own x : ℕ) where
   pub wrote-own : own ≤ x → Wrote (entry (under own) x ∷ []) bytes bytes p (Refused (Operand (p .number)))

@@ -1,9 +1,11 @@
 // A number of the sheet, judged as the reader judges it and then written.
 ghost use mathlib.Core.List.{[], _∷_};
-ghost use Prim.Native.Nat.{_<_, _≤_};
+ghost use mathlib.Core.Path.{_≡_};
+ghost use mathlib.Core.Bool.{Bool};
+ghost use Prim.Native.Nat.{ℕ, _<_, _≤_};
 ghost use Rattle.maps.specs.Number.{values, bytesFor};
 ghost use Rattle.maps.specs.Limits.{sizeRange};
-ghost use Rattle.maps.specs.Form.{among, under};
+ghost use Rattle.maps.specs.Form.{among, boxed, under};
 ghost use Rattle.maps.specs.Write.{entry};
 ghost use Rattle.maps.specs.Sizes.{idBytesMost};
 ghost use Rattle.ranges.specs.Ranges.{spanMeant, fieldRange};
@@ -53,6 +55,17 @@ pub fn put_field(bytes: &mut [u8], position: Position, field: Field, x: u64) -> 
     ensures { λ r. ⌜ Wrote (entry (among (fieldRange field)) x ∷ []) (now (bytes .entry)) (now (bytes .exit)) position r ⌝ }
 {
     let span = range_of(field);
+    put_in(bytes, position, span, x)
+}
+
+// Writes a number in a range that must be the id of a box too: `valid` says whether it is.
+pub fn put_box(bytes: &mut [u8], position: Position, span: Span, valid: bool, x: u64) -> Progress
+    requires { ⌜ (span .high < values) × Room (bytesFor (span .high)) (now bytes) position ⌝ }
+    ensures { λ r. ⌜ ((isBox : ℕ → Bool) → isBox x ≡ valid → Wrote (entry (boxed (spanMeant span) isBox) x ∷ []) (now (bytes .entry)) (now (bytes .exit)) position r) ⌝ }
+{
+    if !valid {
+        return Progress::Refused(Refusal::Range(position.number));
+    }
     put_in(bytes, position, span, x)
 }
 

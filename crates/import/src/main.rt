@@ -56,7 +56,7 @@ fn write_first(sheet: &[u8], n: usize) {
 // Imports the text on standard input, stopping one byte past the longest that can be.
 fn run(leaves: u32, top: u32, horizon: u32, table: u32, level: u32) {
     let mut text = [0u8; 65537];
-    let mut sheet = [0u8; 12041];
+    let mut sheet = [0u8; 13068];
     let n = io::read_full(0, &mut text);
     let answer = importer::import_blif(&text[..n], leaves, top, horizon, table, level, &mut sheet);
     match answer {

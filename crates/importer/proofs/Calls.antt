@@ -41,12 +41,12 @@ module _ (text : List ℕ) (c : Caller) (M : Model) (f : modelOf text ≡ found 
   -- the rows that are marked and the operands are those of the sheet's records
   pub all-marked : {names nodes operands : List ℕ} {n u : ℕ} (after : List ℕ) (m : Marked) → m ≡ Is.All → Kept (delay c) (M .definitions) names nodes operands n u
       → OutputsMarked (delay c) M after m → (room : ℕ)
-      → writing (recordsIn (c .leaves) (c .top) (c .horizon) (take (nodePlace n) after) (take u operands) []) room ≡ importing text c room
+      → writing (recordsIn (c .leaves) (c .top) (c .horizon) (take (nodePlace n) after) (take u operands) [] 1 []) room ≡ importing text c room
   all-marked {operands = operands} {n = n} {u = u} after m e k o room =
       let q = subst (OutputsMarked (delay c) M after) e o in
-      ap (λ (x : ℕ). writing (recordsIn (c .leaves) (c .top) (c .horizon) (take (nodePlace x) after) (take u operands) []) room) (sym (kept-size k))
-      ∙ ap (λ (rows : List ℕ). writing (recordsIn (c .leaves) (c .top) (c .horizon) rows (take u operands) []) room) (q .1)
-      ∙ ap (λ (ids : List ℕ). writing (recordsIn (c .leaves) (c .top) (c .horizon) (rowsFrom (delay c) (isOutput (M .outputs)) 0 (M .definitions)) ids []) room) (k .ids)
+      ap (λ (x : ℕ). writing (recordsIn (c .leaves) (c .top) (c .horizon) (take (nodePlace x) after) (take u operands) [] 1 []) room) (sym (kept-size k))
+      ∙ ap (λ (rows : List ℕ). writing (recordsIn (c .leaves) (c .top) (c .horizon) rows (take u operands) [] 1 []) room) (q .1)
+      ∙ ap (λ (ids : List ℕ). writing (recordsIn (c .leaves) (c .top) (c .horizon) (rowsFrom (delay c) (isOutput (M .outputs)) 0 (M .definitions)) ids [] 1 []) room) (k .ids)
       ∙ ap (λ (R : Records). writing R room) (records-of c (M .definitions) (M .outputs))
       ∙ sym (import-writes text c M f (q .0) h (short-enough text l) room)
 

@@ -146,10 +146,10 @@ module _ (d : ℕ) (m : Word → Bool) where
 -- The rows of a model and the ids that it reads are, as the sheet writer takes them, the records of its sheet: each row ends where the reads up to
 -- its definition do, so its operands are the ids of that definition's reads.
 pub records-of : (c : Caller) (ds : List Definition) (os : List OutputName)
-    → recordsIn (c .leaves) (c .top) (c .horizon) (rowsFrom (delay c) (isOutput os) 0 ds) (idsOf (namesOf ds) ds) [] ≡ recordsOf (sheetOf c (record { definitions = ds; outputs = os }))
+    → recordsIn (c .leaves) (c .top) (c .horizon) (rowsFrom (delay c) (isOutput os) 0 ds) (idsOf (namesOf ds) ds) [] 1 [] ≡ recordsOf (sheetOf c (record { definitions = ds; outputs = os }))
 records-of c ds os =
     let p = nodes-are (delay c) (isOutput os) ds (idOf (namesOf ds)) ∙ sym (map-map nodeRecord (nodeOf (delay c) (record { definitions = ds; outputs = os })) ds) in
-    λ i. record { leaves = c .leaves; top = c .top; horizon = c .horizon; nodes = p i; differences = [] }
+    λ i. record { leaves = c .leaves; top = c .top; horizon = c .horizon; nodes = p i; differences = []; period = 1; windows = [] }
 
 module _ (text : List ℕ) (c : Caller) where
   -- the caller's numbers and the text's length are looked at first

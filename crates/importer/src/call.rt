@@ -53,6 +53,8 @@ pub fn write_model(
                 &nodes[..n],
                 &operands[..used],
                 &none,
+                1,
+                &none,
                 buffer,
             )
         }

@@ -1,15 +1,18 @@
 -- The records as C hands them over: flat rows of 32-bit numbers.
 use Prim.Native.Nat.{ℕ, zero, suc, _+_, _-_, _*_, _/_, min}
-use mathlib.Core.Bool.{cond}
+use mathlib.Core.Bool.{Bool, false, cond}
 use mathlib.Core.List.{List, [], _∷_, map}
 use lib.Dec.{ltb}
 use lib.IntN.{ℤ, pos, negsuc}
 use lib.ListN.{length, getD, take, drop}
 use Rattle.maps.specs.Lists.{below}
+use Rattle.maps.specs.Sheet.{Window, isBox}
+use Rattle.maps.specs.Read.{kindOf, nextId}
 use Rattle.maps.specs.Records.{NodeRecord, DifferenceRecord, Records}
-use Rattle.maps.specs.Write.{Entry, nodeNumbers, differenceNumbers}
+use Rattle.maps.specs.Write.{Entry, nodeNumbers, differenceNumbers, windowNumbers}
 use Rattle.records.specs.declared.NodeRow.{NodeRow}
 use Rattle.records.specs.declared.DifferenceRow.{DifferenceRow}
+use Rattle.records.specs.declared.WindowRow.{WindowRow}
 
 -- where the row of a node begins
 abbrev pub nodePlace : ℕ → ℕ
@@ -22,6 +25,10 @@ markPlace v = nodePlace v + 1
 -- where the row of a difference begins
 abbrev pub differencePlace : ℕ → ℕ
 differencePlace j = j * 3
+
+-- where the row of a window begins
+abbrev pub windowPlace : ℕ → ℕ
+windowPlace j = j * 3
 
 -- how many whole rows there are
 abbrev pub rowsIn : (place : ℕ → ℕ) → List ℕ → ℕ
@@ -64,6 +71,38 @@ differenceIn differences j =
 abbrev pub differenceEntries : (size : ℕ) (differences : List ℕ) → ℕ → List Entry
 differenceEntries n differences j = differenceNumbers n (differenceIn differences j)
 
+-- document 02, U8: "box id, from, to"
+abbrev pub windowRow : List ℕ → ℕ → WindowRow
+windowRow windows j =
+    record {
+      id = getD windows (windowPlace j) 0;
+      from = getD windows (windowPlace j + 1) 0;
+      to = getD windows (windowPlace j + 2) 0;
+    }
+
+abbrev pub windowIn : (windows : List ℕ) → ℕ → Window
+windowIn windows j =
+    let row = windowRow windows j in
+    record { id = row .id; from = row .from; to = row .to }
+
+abbrev pub windowsIn : (windows : List ℕ) → List Window
+windowsIn windows = map (windowIn windows) (below (rowsIn windowPlace windows))
+
+-- "Entries stand in rising id order": the least id that entry j may have
+abbrev pub lowIn : (windows : List ℕ) → ℕ → ℕ
+lowIn windows zero = 0
+lowIn windows (suc j) = nextId (windowIn windows j)
+
+-- its numbers among n nodes, where the period is p
+abbrev pub windowEntries : (size : ℕ) (isBox : ℕ → Bool) (period : ℕ) (windows : List ℕ) → ℕ → List Entry
+windowEntries n isBox p windows j = windowNumbers n isBox p (lowIn windows j) (windowIn windows j)
+
+-- whether an id is that of a box: that of a row whose kind is
+abbrev pub boxAt : (nodes : List ℕ) → ℕ → Bool
+boxAt nodes v =
+    let row = nodeRow nodes v in
+    cond (ltb v (rowsIn nodePlace nodes)) (isBox (kindOf (row .kind) (row .latency) (row .clock))) false
+
 module _ (nodes operands : List ℕ) where
   -- where the operands of the nodes before v end: those of node v are the ones "from the end of the node before to its own end", and none past the
   -- array
@@ -90,13 +129,15 @@ module _ (nodes operands : List ℕ) where
 abbrev pub nodeEntries : (top : ℕ) (nodes operands : List ℕ) → ℕ → List Entry
 nodeEntries top nodes operands v = nodeNumbers top v (nodeIn nodes operands v)
 
--- K, T, H and the rows as records
-abbrev pub recordsIn : (k t h : ℕ) → (nodes operands differences : List ℕ) → Records
-recordsIn k t h nodes operands differences =
+-- K, T, H, P and the rows as records
+abbrev pub recordsIn : (k t h : ℕ) → (nodes operands differences : List ℕ) → (period : ℕ) → (windows : List ℕ) → Records
+recordsIn k t h nodes operands differences p windows =
     record {
       leaves = k;
       top = t;
       horizon = h;
       nodes = map (nodeIn nodes operands) (below (rowsIn nodePlace nodes));
       differences = map (differenceIn differences) (below (rowsIn differencePlace differences));
+      period = p;
+      windows = windowsIn windows;
     }

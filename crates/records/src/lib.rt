@@ -1,16 +1,20 @@
-// The records as C hands them over: rows of six numbers for the nodes and of three for the differences, and one array of operand ids.
+// The records as C hands them over: rows of six numbers for the nodes, of three for the differences and of three for the windows, and one array of
+// operand ids.
 ghost use mathlib.Core.Path.{_≡_};
 ghost use Prim.Native.Nat.{_+_, _/_, _<_, _≤_};
 ghost use mathlib.Core.List.{[], _∷_, _++_};
 ghost use lib.ListN.{length, take, set};
 ghost use Rattle.maps.specs.Write.{codeOfWeight};
-ghost use Rattle.records.specs.Rows.{nodePlace, markPlace, differencePlace, rowsIn, nodeRow, rowNumbers, differenceRow, endOf, signed};
+ghost use Rattle.records.specs.Rows.{nodePlace, markPlace, differencePlace, windowPlace, rowsIn, nodeRow, rowNumbers, differenceRow, windowRow, endOf, boxAt, signed};
 
 // How many numbers the row of a node has.
 pub const NODE: usize = 6;
 
 // How many numbers the row of a difference has.
 const DIFFERENCE: usize = 3;
+
+// How many numbers the row of a window has.
+const WINDOW: usize = 3;
 
 // A node without its operands: kind, output mark, d, lat, where its operands end in the array of operand ids, and its q.
 pub struct NodeRow {
@@ -29,6 +33,13 @@ pub struct DifferenceRow {
     pub weight: u32,
 }
 
+// A window: the box, and from which remainder of its step by the period to which.
+pub struct WindowRow {
+    pub id: u32,
+    pub from: u32,
+    pub to: u32,
+}
+
 // How many nodes there are.
 pub fn node_count(nodes: &[u32]) -> usize
     ensures { λ r. ⌜ r ≡ rowsIn nodePlace (now (nodes .entry)) ⌝ }
@@ -41,6 +52,13 @@ pub fn difference_count(differences: &[u32]) -> usize
     ensures { λ r. ⌜ r ≡ rowsIn differencePlace (now (differences .entry)) ⌝ }
 {
     differences.len() / DIFFERENCE
+}
+
+// How many windows there are.
+pub fn window_count(windows: &[u32]) -> usize
+    ensures { λ r. ⌜ r ≡ rowsIn windowPlace (now (windows .entry)) ⌝ }
+{
+    windows.len() / WINDOW
 }
 
 // The row of node v.
@@ -100,6 +118,32 @@ pub fn difference_at(differences: &[u32], j: usize) -> DifferenceRow
         to: differences[row + 1],
         weight: differences[row + 2],
     }
+}
+
+// The row of window j.
+pub fn window_at(windows: &[u32], j: usize) -> WindowRow
+    requires { ⌜ windowPlace (j + 1) ≤ length (now windows) ⌝ }
+    ensures { λ r. ⌜ r ≡ windowRow (now (windows .entry)) j ⌝ }
+{
+    let row = j * WINDOW;
+    WindowRow {
+        id: windows[row],
+        from: windows[row + 1],
+        to: windows[row + 2],
+    }
+}
+
+// Whether v is the id of a box.
+pub fn is_box(nodes: &[u32], v: u32) -> bool
+    ensures { λ r. ⌜ r ≡ boxAt (now (nodes .entry)) v ⌝ }
+{
+    let n = node_count(nodes);
+    let id = v as usize;
+    if n <= id {
+        return false;
+    }
+    let row = node_at(nodes, id);
+    2 <= row.kind
 }
 
 // Where the operands of node v end: not past the array.

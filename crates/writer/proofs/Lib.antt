@@ -1,2 +1,3 @@
 pub mod NodeRows
+pub mod WindowRows
 pub mod Sheets

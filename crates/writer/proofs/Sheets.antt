@@ -9,15 +9,16 @@ use Rattle.maps.specs.Lists.{below, concat}
 use Rattle.maps.specs.Limits.{topRange, sizeRange, countRange}
 use Rattle.maps.specs.Outcome.{refusal, within}
 use Rattle.maps.specs.Records.{Records}
-use Rattle.maps.specs.Write.{Entry, headerEntries, numbers, nodeNumbers, differenceNumbers, writing}
-use Rattle.maps.specs.Sizes.{headerBytesMost, nodeBytesMost, differenceBytesMost, sheetMost}
+use Rattle.maps.specs.Write.{Entry, headerEntries, numbers, nodeNumbers, differenceNumbers, cycleNumbers, writing}
+use Rattle.maps.specs.Sizes.{headerBytesMost, nodeBytesMost, differenceBytesMost, cycleBytesMost, sheetMost}
 use Rattle.maps.proofs.Over.{length-below}
 use Rattle.maps.proofs.Parse.{in-range}
 use Rattle.maps.proofs.Numbers.{each-below}
 use Rattle.maps.proofs.Written.{passes-writing, first-refused}
 use Rattle.types.specs.Code.{numberOf, placeOf}
 use Rattle.types.specs.declared.Refusal.{Refusal}
-use Rattle.records.specs.Rows.{nodePlace, differencePlace, rowsIn, nodeIn, differenceIn, nodeEntries, differenceEntries, recordsIn}
+use Rattle.records.specs.Rows.{nodePlace, differencePlace, rowsIn, nodeIn, differenceIn, windowsIn, nodeEntries, differenceEntries, boxAt, recordsIn}
+use Rattle.records.proofs.WindowLaws.{boxes-are}
 use Rattle.fields.specs.Wrote.{start, Room, Wrote, passed, failed}
 use Rattle.fields.specs.declared.Position.{Position}
 use Rattle.fields.specs.declared.Progress.the-variants.{Next, Refused}
@@ -35,7 +36,7 @@ limited k t h n m (passed good f e) =
     record { top = in-range topRange t (good .1 .0) .most; some = size .least; nodes = size .most; differences = in-range countRange m (good .1 .1 .1 .1 .0) .most }
 
 -- no sheet exceeds the bytes of the longest
-pub parts-most : {t n m : ℕ} → Limited t n m → headerBytesMost + n * nodeBytesMost + m * differenceBytesMost ≤ sheetMost
+pub parts-most : {t n m : ℕ} → Limited t n m → headerBytesMost + n * nodeBytesMost + m * differenceBytesMost + cycleBytesMost ≤ sheetMost
 parts-most l = omega (arith, mul-le-mul-right nodeBytesMost (l .nodes), mul-le-mul-right differenceBytesMost (l .differences))
 
 -- there is room for a whole sheet
@@ -50,12 +51,15 @@ count-rows : {A : Type 0} (row : ℕ → A) (n : ℕ) → length (map row (below
 count-rows row n = length-map (below n) row ∙ length-below n
 
 -- the numbers of the records in rows, part by part
-pub numbers-in : (k t h : ℕ) (nodes operands differences : List ℕ) (n m : ℕ) → n ≡ rowsIn nodePlace nodes → m ≡ rowsIn differencePlace differences
-    → numbers (recordsIn k t h nodes operands differences)
-    ≡ headerEntries k t h n m ++ (concat (map (nodeEntries t nodes operands) (below n)) ++ concat (map (differenceEntries n differences) (below m)))
+pub numbers-in : (k t h : ℕ) (nodes operands differences : List ℕ) (p : ℕ) (windows : List ℕ) (n m : ℕ) → n ≡ rowsIn nodePlace nodes → m ≡ rowsIn differencePlace differences
+    → numbers (recordsIn k t h nodes operands differences p windows)
+    ≡ headerEntries k t h n m
+    ++ (concat (map (nodeEntries t nodes operands) (below n))
+    ++ (concat (map (differenceEntries n differences) (below m)) ++ cycleNumbers n (boxAt nodes) p (windowsIn windows)))
 unfolding numbers
-numbers-in k t h nodes operands differences n m en em =
+numbers-in k t h nodes operands differences p windows n m en em =
     rw (
+      boxes-are nodes operands k t h differences p windows,
       ← en,
       ← em,
       count-rows (nodeIn nodes operands) n,

@@ -1,14 +1,14 @@
-// The nodes and the differences of a sheet.
+// The nodes, the differences and the windows of a sheet.
 ghost use mathlib.Core.Path.{_≡_};
 ghost use mathlib.Core.List.{map};
 ghost use Prim.Native.Nat.{_+_, _*_, _<_, _≤_};
 ghost use lib.ListN.{length, take, drop};
 ghost use Rattle.maps.specs.Lists.{below, concat};
-ghost use Rattle.maps.specs.Limits.{topRange, sizeRange};
+ghost use Rattle.maps.specs.Limits.{topRange, sizeRange, periodRange};
 ghost use Rattle.maps.specs.Form.{under};
-ghost use Rattle.maps.specs.Write.{entry};
-ghost use Rattle.maps.specs.Sizes.{idBytesMost, nodeBytesMost, differenceBytesMost};
-ghost use Rattle.records.specs.Rows.{nodePlace, differencePlace, endOf, nodeEntries, differenceEntries};
+ghost use Rattle.maps.specs.Write.{entry, cycleNumbers};
+ghost use Rattle.maps.specs.Sizes.{idBytesMost, nodeBytesMost, differenceBytesMost, windowBytesMost, cycleBytesMost};
+ghost use Rattle.records.specs.Rows.{nodePlace, differencePlace, windowPlace, endOf, nodeEntries, differenceEntries, windowEntries, windowsIn, boxAt};
 ghost use Rattle.fields.specs.Wrote.{Room, Wrote};
 use entries::put_difference;
 use entries::put_head;
@@ -17,6 +17,10 @@ use fields::Progress;
 use fields::put_operand;
 use records::end_of;
 use records::node_at;
+use records::window_at;
+use records::window_count;
+use slots::put_cycle;
+use slots::put_window;
 
 // Writes the operands of the node own: `count` of them from `first` on.
 pub fn put_operands(
@@ -120,4 +124,53 @@ pub fn put_differences(
         j += 1;
     }
     Progress::Next(to)
+}
+
+// Writes k windows among n nodes.
+pub fn put_windows(
+    nodes: &[u32],
+    windows: &[u32],
+    k: usize,
+    n: u32,
+    period: u32,
+    bytes: &mut [u8],
+    position: Position,
+) -> Progress
+    requires { ⌜ (windowPlace k ≤ length (now windows)) × (0 < n) × (n ≤ sizeRange .high) × (0 < period) × (period ≤ periodRange .high) × Room (k * windowBytesMost) (now bytes) position ⌝ }
+    ensures { λ r. ⌜ Wrote (concat (map (windowEntries n (boxAt (now (nodes .entry))) period (now (windows .entry))) (below k))) (now (bytes .entry)) (now (bytes .exit)) position r ⌝ }
+{
+    let mut to = position;
+    let mut low: u32 = 0;
+    let mut j: usize = 0;
+    while j < k {
+        let part = put_window(nodes, windows, j, low, n, period, bytes, to);
+        let Progress::Next(next) = part else {
+            return part;
+        };
+        to = next;
+        let row = window_at(windows, j);
+        low = row.id + 1;
+        j += 1;
+    }
+    Progress::Next(to)
+}
+
+// Writes the period and the windows of a sheet of n nodes.
+pub fn put_slots(
+    nodes: &[u32],
+    windows: &[u32],
+    n: u32,
+    period: u32,
+    bytes: &mut [u8],
+    position: Position,
+) -> Progress
+    requires { ⌜ (0 < n) × (n ≤ sizeRange .high) × Room cycleBytesMost (now bytes) position ⌝ }
+    ensures { λ r. ⌜ Wrote (cycleNumbers n (boxAt (now (nodes .entry))) period (windowsIn (now (windows .entry)))) (now (bytes .entry)) (now (bytes .exit)) position r ⌝ }
+{
+    let k = window_count(windows);
+    let cycle = put_cycle(period, k, n, bytes, position);
+    let Progress::Next(next) = cycle else {
+        return cycle;
+    };
+    put_windows(nodes, windows, k, n, period, bytes, next)
 }

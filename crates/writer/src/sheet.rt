@@ -8,6 +8,7 @@ ghost use Rattle.records.specs.Rows.{recordsIn};
 ghost use Rattle.fields.specs.Wrote.{start, Wrote};
 use crate::parts::put_differences;
 use crate::parts::put_nodes;
+use crate::parts::put_slots;
 use bytes::Outcome;
 use bytes::hand_over;
 use entries::put_header;
@@ -17,7 +18,7 @@ use records::difference_count;
 use records::node_count;
 
 // Room for the longest sheet.
-pub type SheetBytes = [u8; 12041];
+pub type SheetBytes = [u8; 13068];
 
 // Makes the sheet, whatever the room.
 pub fn make_sheet(
@@ -27,10 +28,12 @@ pub fn make_sheet(
     nodes: &[u32],
     operands: &[u32],
     differences: &[u32],
+    period: u32,
+    windows: &[u32],
     bytes: &mut SheetBytes,
 ) -> Progress
     requires { ⌜ length (now bytes) ≡ sheetMost ⌝ }
-    ensures { λ r. ⌜ Wrote (numbers (recordsIn leaves top horizon (now (nodes .entry)) (now (operands .entry)) (now (differences .entry))))
+    ensures { λ r. ⌜ Wrote (numbers (recordsIn leaves top horizon (now (nodes .entry)) (now (operands .entry)) (now (differences .entry)) period (now (windows .entry))))
         (now (bytes .entry)) (now (bytes .exit)) start r ⌝ }
 {
     let n = node_count(nodes);
@@ -51,7 +54,12 @@ pub fn make_sheet(
     let Progress::Next(p2) = body else {
         return body;
     };
-    put_differences(differences, m, n as u32, bytes, p2)
+    let size = n as u32;
+    let wishes = put_differences(differences, m, size, bytes, p2);
+    let Progress::Next(p3) = wishes else {
+        return wishes;
+    };
+    put_slots(nodes, windows, size, period, bytes, p3)
 }
 
 // Writes the sheet of records into a buffer: number, place and every byte of the buffer are those of the defined outcome.
@@ -62,12 +70,14 @@ pub fn write(
     nodes: &[u32],
     operands: &[u32],
     differences: &[u32],
+    period: u32,
+    windows: &[u32],
     buffer: &mut [u8],
 ) -> Outcome
-    ensures { λ r. ⌜ Answered (writing (recordsIn leaves top horizon (now (nodes .entry)) (now (operands .entry)) (now (differences .entry))) (length (now (buffer .entry))))
+    ensures { λ r. ⌜ Answered (writing (recordsIn leaves top horizon (now (nodes .entry)) (now (operands .entry)) (now (differences .entry)) period (now (windows .entry))) (length (now (buffer .entry))))
         (numberAnswered r) (placeAnswered r) (now (buffer .entry)) (now (buffer .exit)) ⌝ }
 {
-    let mut bytes = [0u8; 12041];
+    let mut bytes = [0u8; 13068];
     let made = make_sheet(
         leaves,
         top,
@@ -75,6 +85,8 @@ pub fn write(
         nodes,
         operands,
         differences,
+        period,
+        windows,
         &mut bytes,
     );
     match made {

@@ -41,6 +41,9 @@ aggregate-write-2 c =
 aggregate-write-3 : tie.Need-slice-aggregate-write-3
 aggregate-write-3 c = refl
 
+aggregate-write-4 : tie.Need-slice-aggregate-write-4
+aggregate-write-4 c = refl
+
 returns : tie.Need-returns
 returns c =
     let s = c .before .before .before .before .before .before .before .before .before .before .before .before in
@@ -50,17 +53,17 @@ returns c =
 
 returns-2 : tie.Need-returns-2
 returns-2 c =
-    let s = c .before .before .before .before .before .before .before .before .before .before .before .before .before .before .before .before .before .before in
-    let m = c .before .before .before .before .before .before .before .before .before .before .before .mark-outputs in
+    let s = c .before .before .before .before .before .before .before .before .before .before .before .before .before .before .before .before .before .before .before in
+    let m = c .before .before .before .before .before .before .before .before .before .before .before .before .mark-outputs in
     λ caller M h el et eh k f.
-    answered-as (s .args .buffer .now) (ap (λ (x : ℕ). writing (recordsIn x (s .args .top) (s .args .horizon) (take (nodePlace (s .args .size .nodes)) (m .last .1 .1 .1 .0)) (take (s .args .size .operands) (s .args .operands .now)) []) (length (s .args .buffer .now))) (sym el)
-    ∙ ap (λ (x : ℕ). writing (recordsIn (caller .leaves) x (s .args .horizon) (take (nodePlace (s .args .size .nodes)) (m .last .1 .1 .1 .0)) (take (s .args .size .operands) (s .args .operands .now)) []) (length (s .args .buffer .now))) (sym et)
-    ∙ ap (λ (x : ℕ). writing (recordsIn (caller .leaves) (caller .top) x (take (nodePlace (s .args .size .nodes)) (m .last .1 .1 .1 .0)) (take (s .args .size .operands) (s .args .operands .now)) []) (length (s .args .buffer .now))) (sym eh)
-    ∙ all-marked (s .args .text .now) caller M f h (s .pre .0) (m .last .1 .1 .1 .0) (m .result) (c .before .before .before .before .before .before .before .enum-told .given .1) k (m .ensures .0 (delay caller) M f (k .named) (k .rows)) (length (s .args .buffer .now)))
+    answered-as (s .args .buffer .now) (ap (λ (x : ℕ). writing (recordsIn x (s .args .top) (s .args .horizon) (take (nodePlace (s .args .size .nodes)) (m .last .1 .1 .1 .0)) (take (s .args .size .operands) (s .args .operands .now)) [] 1 []) (length (s .args .buffer .now))) (sym el)
+    ∙ ap (λ (x : ℕ). writing (recordsIn (caller .leaves) x (s .args .horizon) (take (nodePlace (s .args .size .nodes)) (m .last .1 .1 .1 .0)) (take (s .args .size .operands) (s .args .operands .now)) [] 1 []) (length (s .args .buffer .now))) (sym et)
+    ∙ ap (λ (x : ℕ). writing (recordsIn (caller .leaves) (caller .top) x (take (nodePlace (s .args .size .nodes)) (m .last .1 .1 .1 .0)) (take (s .args .size .operands) (s .args .operands .now)) [] 1 []) (length (s .args .buffer .now))) (sym eh)
+    ∙ all-marked (s .args .text .now) caller M f h (s .pre .0) (m .last .1 .1 .1 .0) (m .result) (c .before .before .before .before .before .before .before .before .enum-told .given .1) k (m .ensures .0 (delay caller) M f (k .named) (k .rows)) (length (s .args .buffer .now)))
     (c .before .before .write .ensures)
 
 pub write-model-spec : {M : Type 1} → statement M
 write-model-spec =
     tie.close
-    (tie.spec mul-n mark-outputs-requires (λ c. search needs) (λ c. search needs) prefix-write aggregate-write aggregate-write-2 aggregate-write-3 (λ c κs. search needs)
+    (tie.spec mul-n mark-outputs-requires (λ c. search needs) (λ c. search needs) prefix-write aggregate-write aggregate-write-2 aggregate-write-3 aggregate-write-4 (λ c κs. search needs)
     (λ c. search needs) returns (λ c. search needs) (λ c. search needs) returns-2)
