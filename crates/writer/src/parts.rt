@@ -19,8 +19,8 @@ use records::end_of;
 use records::node_at;
 use records::window_at;
 use records::window_count;
-use slots::put_cycle;
-use slots::put_window;
+use window_write::put_period;
+use window_write::put_window;
 
 // Writes the operands of the node own: `count` of them from `first` on.
 pub fn put_operands(
@@ -156,7 +156,7 @@ pub fn put_windows(
 }
 
 // Writes the period and the windows of a sheet of n nodes.
-pub fn put_slots(
+pub fn put_cycle(
     nodes: &[u32],
     windows: &[u32],
     n: u32,
@@ -168,7 +168,7 @@ pub fn put_slots(
     ensures { λ r. ⌜ Wrote (cycleNumbers n (boxAt (now (nodes .entry))) period (windowsIn (now (windows .entry)))) (now (bytes .entry)) (now (bytes .exit)) position r ⌝ }
 {
     let k = window_count(windows);
-    let cycle = put_cycle(period, k, n, bytes, position);
+    let cycle = put_period(period, k, n, bytes, position);
     let Progress::Next(next) = cycle else {
         return cycle;
     };

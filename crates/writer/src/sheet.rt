@@ -6,9 +6,9 @@ ghost use Rattle.maps.specs.Sizes.{sheetMost};
 ghost use Rattle.bytes.specs.Outcome.{Answered, numberAnswered, placeAnswered};
 ghost use Rattle.records.specs.Rows.{recordsIn};
 ghost use Rattle.fields.specs.Wrote.{start, Wrote};
+use crate::parts::put_cycle;
 use crate::parts::put_differences;
 use crate::parts::put_nodes;
-use crate::parts::put_slots;
 use bytes::Outcome;
 use bytes::hand_over;
 use entries::put_header;
@@ -59,7 +59,7 @@ pub fn make_sheet(
     let Progress::Next(p3) = wishes else {
         return wishes;
     };
-    put_slots(nodes, windows, size, period, bytes, p3)
+    put_cycle(nodes, windows, size, period, bytes, p3)
 }
 
 // Writes the sheet of records into a buffer: number, place and every byte of the buffer are those of the defined outcome.

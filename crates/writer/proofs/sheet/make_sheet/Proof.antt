@@ -120,8 +120,8 @@ returns-3 c =
     (last-one (begun (k1 .before .header .given .1) (h .put-header .ensures))
     (last-one (begun (k2 .before .body .given .1) (v .put-nodes .ensures)) (stopped (slotNumbers h) (c .enum-told3 .given .1) (d .put-differences .ensures))))
 
-put-slots-requires : tie.Need-put-slots-requires
-put-slots-requires c κs =
+put-cycle-requires : tie.Need-put-cycle-requires
+put-cycle-requires c κs =
     let k3 = c .before in
     let d = k3 .before .before .before in
     let k2 = d .before .before in
@@ -143,7 +143,7 @@ returns-4 c =
     rw (whole h)
     (last-one (begun (k1 .before .header .given .1) (h .put-header .ensures))
     (last-one (begun (k2 .before .body .given .1) (v .put-nodes .ensures))
-    (last-one (begun (k3 .before .wishes .given .1) (d .put-differences .ensures)) (c .put-slots .ensures))))
+    (last-one (begun (k3 .before .wishes .given .1) (d .put-differences .ensures)) (c .put-cycle .ensures))))
 
 pub make-sheet-spec : {M : Type 1} → statement M
 make-sheet-spec =
@@ -164,5 +164,5 @@ make-sheet-spec =
     (λ c. search needs)
     (λ c. search needs)
     returns-3
-    put-slots-requires
+    put-cycle-requires
     returns-4)

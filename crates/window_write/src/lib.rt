@@ -20,7 +20,7 @@ use records::is_box;
 use records::window_at;
 
 // Writes the period, and how many windows there are among n nodes.
-pub fn put_cycle(
+pub fn put_period(
     period: u32,
     count: usize,
     n: u32,

@@ -10,9 +10,9 @@ use Rattle.maps.proofs.WrittenSize.{within-bytes}
 use Rattle.ranges.proofs.RangeLaws.{Ends, from-right, ends-right, to-right}
 use Rattle.fields.specs.Wrote.{Wrote}
 use Rattle.fields.proofs.WroteLaws.{begun, stopped, last-one, wrote-wide, room-left, room-less}
-use Rattle.slots.proofs.Within.{within}
-use Rattle.slots.proofs.put_times.Statement.{statement}
-use Rattle.slots.proofs.put_times.Tie as tie
+use Rattle.window_write.proofs.Within.{within}
+use Rattle.window_write.proofs.put_times.Statement.{statement}
+use Rattle.window_write.proofs.put_times.Tie as tie
 
 -- the range of from
 froms : (u : tie.After-up-to) → Ends (u .up-to .result) (fromRange (u .before .before .before .args .period))

@@ -7,8 +7,8 @@ use Rattle.maps.specs.Write.{windowNumbers}
 use Rattle.maps.proofs.WrittenSize.{id-bytes}
 use Rattle.records.specs.Rows.{windowIn, boxAt}
 use Rattle.fields.proofs.WroteLaws.{begun, stopped, last-one, wrote-wide, room-left, room-less}
-use Rattle.slots.proofs.put_window.Statement.{statement}
-use Rattle.slots.proofs.put_window.Tie as tie
+use Rattle.window_write.proofs.put_window.Statement.{statement}
+use Rattle.window_write.proofs.put_window.Tie as tie
 
 put-id-requires : tie.Need-put-id-requires
 put-id-requires c κs = let p = c .before .before .before .before .before .pre in (p .1, p .2, room-less (omega arith) (p .5))

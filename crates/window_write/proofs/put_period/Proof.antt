@@ -1,4 +1,4 @@
--- `put_cycle` meets its contract: the period, then the count.
+-- `put_period` meets its contract: the period, then the count.
 use native.Mathlib.Omega.{arith}
 use borrow.Author.Needs.{needs}
 use mathlib.Core.List.{[], _∷_}
@@ -8,8 +8,8 @@ use Rattle.maps.specs.Write.{entry}
 use Rattle.maps.proofs.WrittenSize.{within-bytes}
 use Rattle.ranges.proofs.RangeLaws.{windows-right}
 use Rattle.fields.proofs.WroteLaws.{begun, stopped, last-one, room-left, room-less}
-use Rattle.slots.proofs.put_cycle.Statement.{statement}
-use Rattle.slots.proofs.put_cycle.Tie as tie
+use Rattle.window_write.proofs.put_period.Statement.{statement}
+use Rattle.window_write.proofs.put_period.Tie as tie
 
 put-field-requires : tie.Need-put-field-requires
 put-field-requires c κs = room-less (omega arith) (c .before .before .pre .1)
@@ -43,8 +43,8 @@ returns-2 c =
     let i = windows-right (o .range-of .result) _ (s .args .n) (s .pre .0) (o .range-of .ensures) (u .up-to .ensures) in
     last-one (begun (k .before .period-put .given .1) (f .put-field .ensures)) (rw (i .0, i .1) at (w .put-in .ensures))
 
-pub put-cycle-spec : {M : Type 1} → statement M
-put-cycle-spec =
+pub put-period-spec : {M : Type 1} → statement M
+put-period-spec =
     tie.close
     (tie.spec
     put-field-requires

@@ -7,8 +7,8 @@ use Rattle.maps.proofs.WrittenSize.{id-bytes}
 use Rattle.ranges.proofs.RangeLaws.{ids-right, boxes-right}
 use Rattle.records.specs.Rows.{boxAt}
 use Rattle.fields.proofs.WroteLaws.{room-less}
-use Rattle.slots.proofs.put_id.Statement.{statement}
-use Rattle.slots.proofs.put_id.Tie as tie
+use Rattle.window_write.proofs.put_id.Statement.{statement}
+use Rattle.window_write.proofs.put_id.Tie as tie
 
 put-box-requires : tie.Need-put-box-requires
 put-box-requires c κs =
