@@ -3,7 +3,7 @@ use Prim.Native.Nat.{ℕ, suc, _+_}
 use mathlib.Core.Path.{_≡_, refl, _∙_}
 use mathlib.Core.List.{List, _∷_}
 use Rattle.maps.specs.Number.{Got, got, refusal, andThen}
-use Rattle.maps.specs.Form.{Form, done, ask, _>>=_, each, tested, read}
+use Rattle.maps.specs.Form.{Form, done, ask, _>>=_, each, chain, tested, read}
 
 -- two ways to go on that agree
 pub then-same : {A B : Type 0} (g : Got A) (f h : A → ℕ → Got B) → ((a : A) (n : ℕ) → f a n ≡ h a n) → andThen g f ≡ andThen g h
@@ -30,3 +30,10 @@ pub read-each : {A : Type 0} (f : ℕ → Form A) (i n : ℕ) (s : List ℕ) (at
 read-each f i n s at =
     read-bind (f i) _ s at
     ∙ then-same (read (f i) s at) _ _ (λ a next. read-bind (each f (i + 1) n) _ s next)
+
+-- the first of a chain, and then the rest
+pub read-chain : {A : Type 0} (next : A → ℕ) (f : ℕ → Form A) (i n : ℕ) (s : List ℕ) (at : ℕ)
+    → read (chain next f i (suc n)) s at ≡ andThen (read (f i) s at) (λ a q. andThen (read (chain next f (next a) n) s q) (λ rest last. got (a ∷ rest) last))
+read-chain next f i n s at =
+    read-bind (f i) _ s at
+    ∙ then-same (read (f i) s at) _ _ (λ a q. read-bind (chain next f (next a) n) _ s q)

@@ -3,7 +3,8 @@ ghost use mathlib.Core.Path.{_≡_};
 ghost use lib.ListN.{length};
 ghost use Rattle.maps.specs.Number.{number, refusal};
 ghost use Rattle.maps.specs.Form.{inRange, operand};
-ghost use Rattle.number.specs.Code.{numberMeant};
+ghost use Rattle.number.specs.Code.{numberMeant, NotRead};
+ghost use Rattle.number.specs.declared.Number.the-variants as Number;
 ghost use Rattle.ranges.specs.Ranges.{spanMeant, fieldRange};
 use ranges::Field;
 use ranges::Span;
@@ -26,6 +27,17 @@ pub struct Cursor {
 pub enum Number {
     Value { value: u32, next: Cursor },
     Refused(Refusal),
+}
+
+// The refusal of a number that was not read.
+pub fn refusal_of(read: Number) -> Refusal
+    requires { ⌜ NotRead read ⌝ }
+    ensures { λ r. ⌜ read ≡ Number.Refused r ⌝ }
+{
+    match read {
+        Number::Refused(why) => why,
+        Number::Value { value: _, next: _ } => Refusal::Ended(0),
+    }
 }
 
 // Ground 1, wherever the sheet ends too early.

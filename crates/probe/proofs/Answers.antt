@@ -17,7 +17,7 @@ use Rattle.cut.specs.Question.{codeFor, AllowedCut, Asked, Fewest, Best}
 use Rattle.probe.specs.Probe.{allowedIn, Coded, Asks, Prepared, NoneWithin, HasCut, has, lacks, unasked, padded, CutAnswer, chosen, none, outside}
 
 -- an id below the header's count is a node of the sheet, and below 256
-module _ {bytes g d : List ℕ} {h : Header} (held : Held bytes g d h) (v : ℕ) (l : v < h .nodes) where
+module _ {bytes g d : List ℕ} {h : Header} {p w : ℕ} (held : Held bytes g d h p w) (v : ℕ) (l : v < h .nodes) where
   within : v < size (held .held)
   within = omega (arith, ap (λ (x : Header). x .nodes) (held .headed))
 
@@ -25,7 +25,7 @@ module _ {bytes g d : List ℕ} {h : Header} (held : Held bytes g d h) (v : ℕ)
   small = omega (arith, within, held .well .size .most)
 
 -- the bytes are one sheet
-same : {bytes g d : List ℕ} {h : Header} (held : Held bytes g d h) (S : Sheet) → parse bytes ≡ sheet S → S ≡ held .held
+same : {bytes g d : List ℕ} {h : Header} {p w : ℕ} (held : Held bytes g d h p w) (S : Sheet) → parse bytes ≡ sheet S → S ≡ held .held
 same held S e = let q = held .reads in cc
 
 -- why nothing is asked
@@ -33,7 +33,7 @@ module _ (bytes : List ℕ) (v k : ℕ) where
   pub not-a-sheet : (j p : ℕ) → parse bytes ≡ refused j p → (S : Sheet) → Asks bytes v k S → ⊥
   not-a-sheet j p e S a = let q = a .reads in let z : _≡_ {A = ℕ} 0 1 = cc in omega arith
 
-  module _ (graph d : List ℕ) (h : Header) (held : Held bytes graph d h) where
+  module _ (graph d : List ℕ) (h : Header) {p w : ℕ} (held : Held bytes graph d h p w) where
     pub no-node : h .nodes ≤ v → (S : Sheet) → Asks bytes v k S → ⊥
     no-node l S a = omega (arith, a .node, ap size (same held S (a .reads)), ap (λ (x : Header). x .nodes) (held .headed))
 

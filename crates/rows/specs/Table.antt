@@ -3,7 +3,7 @@ use Prim.Native.Nat.{ℕ, _+_, _*_, _≤_, _<_}
 use mathlib.Core.Path.{_≡_}
 use mathlib.Core.Bool.{Bool, cond}
 use mathlib.Core.List.{List, [], _∷_, map}
-use lib.Dec.{eqb}
+use lib.Dec.{eqb, leb}
 use lib.ListN.{length, getD, set, replicate}
 use Rattle.maps.specs.Sheet.{Sheet, Kind, Node, Difference, Window, size, node, window, latency, latencyOf, clockToQ, clockToQOf}
 use Rattle.maps.specs.Read.{kindOf, Head, Header}
@@ -157,6 +157,10 @@ module _ (g : List ℕ) (v : ℕ) where
 
   abbrev pub operandIn : ℕ → ℕ
   operandIn j = getD g (operandPlace v + j) 0
+
+-- the ids that the table has as boxes; 0 stands past its end
+abbrev pub boxesIn : List ℕ → ℕ → Bool
+boxesIn g v = leb 2 (kindIn g v)
 
 -- where the window closes: at the period's end where there is none
 abbrev pub closing : (g : List ℕ) → (period v : ℕ) → ℕ

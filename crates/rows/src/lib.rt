@@ -9,7 +9,7 @@ ghost use Rattle.maps.specs.WellFormed.{codeOf};
 ghost use Rattle.maps.specs.Read.{kindOf};
 ghost use Rattle.types.specs.Code.{kindMeant};
 ghost use Rattle.rows.specs.Code.{headMeant, differenceMeant};
-ghost use Rattle.rows.specs.Table.{markOf, storeFrom, headRow, differenceRow, windowRow, nodePlace, operandPlace, windowPlace, differencePlace, openIn, closing, kindAt, markIn, delayIn, latencyIn, clockIn, countIn, operandIn, fromIn, toIn, plusIn, minusIn};
+ghost use Rattle.rows.specs.Table.{markOf, storeFrom, headRow, differenceRow, windowRow, nodePlace, operandPlace, windowPlace, differencePlace, openIn, closing, kindIn, kindAt, markIn, delayIn, latencyIn, clockIn, countIn, operandIn, fromIn, toIn, plusIn, minusIn};
 use types::Kind;
 use types::Level;
 use types::Node;
@@ -169,6 +169,14 @@ pub fn store_difference(table: &mut [u32], i: u32, difference: Difference)
     table[base + TO] = difference.to;
     table[base + PLUS] = difference.plus;
     table[base + MINUS] = difference.minus;
+}
+
+// The code of node v's kind.
+pub fn code_in(graph: &[u32], v: u32) -> u32
+    requires { ⌜ nodePlace v < length (now graph) ⌝ }
+    ensures { λ r. ⌜ r ≡ kindIn (now (graph .entry)) v ⌝ }
+{
+    graph[v as usize * NODE]
 }
 
 // The kind of node v.

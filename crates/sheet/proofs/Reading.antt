@@ -1,5 +1,5 @@
 -- Reading into tables of zeros ends as the definition's reading does, and leaves there the tables of the sheet.
-use Prim.Native.Nat.{ℕ, zero, suc, _+_}
+use Prim.Native.Nat.{ℕ, zero, suc, _+_, _≤_}
 use mathlib.Core.Path.{_≡_, refl, sym, subst, ap, _∙_}
 use mathlib.Core.Bool.{Bool, true, false, cond}
 use mathlib.Core.List.{List, [], _∷_, map}
@@ -7,15 +7,17 @@ use native.Mathlib.Omega.{arith}
 use lib.Dec.{ltb}
 use lib.ListN.{length, set}
 use Rattle.maps.specs.Number.{Got, got, refusal, andThen}
-use Rattle.maps.specs.Sheet.{Sheet, Node, Difference}
-use Rattle.maps.specs.Form.{Form, done, under, _>>=_, asked, each, times, operand, read}
-use Rattle.maps.specs.Read.{Head, nodeOf, headForm, nodeForm, differenceForm, Header, headerForm, sheetOf, sheetForm, Parsed, sheet, refused, whole, parse}
-use Rattle.maps.proofs.Forms.{then-same, read-bind, read-each}
-use Rattle.maps.proofs.Parse.{counted}
-use Rattle.rows.specs.Table.{operandColumn, nodeRow, headRow, differenceRow, storeFrom, storeRows, nodePlace, operandPlace, differencePlace, noNodes, noDifferences, graphOf, differencesOf, headerOf}
+use Rattle.maps.specs.Sheet.{Sheet, Node, Difference, Window, boxIn}
+use Rattle.maps.specs.Limits.{periodRange, windowsRange}
+use Rattle.maps.specs.Form.{Form, done, under, _>>=_, asked, each, times, chain, operand, inRange, read}
+use Rattle.maps.specs.Read.{Head, nodeOf, headForm, nodeForm, differenceForm, Header, headerForm, windowForm, nextId, cycleOf, cycleForm, sheetOf, sheetForm, Parsed, sheet, refused, whole, parse}
+use Rattle.maps.proofs.Forms.{then-same, read-bind, read-each, read-chain}
+use Rattle.maps.proofs.Parse.{counted, nodes-few, windows-counted, header-well}
+use Rattle.rows.specs.Table.{operandColumn, nodeRow, headRow, differenceRow, windowRow, storeFrom, storeRows, storeWindows, nodePlace, operandPlace, differencePlace, windowPlace, boxesIn, noNodes, noDifferences, graphOf, differencesOf, headerOf}
 use Rattle.sheet.specs.Answer.{Answer, header, answerNumber, answerPlace, Tables, tables, readAfter}
 use Rattle.sheet.specs.Answer as Answers
-use Rattle.sheet.specs.Fill.{Filled, filled, gotOn, fillOn, repeatInto, operandInto, operandsInto, nodeInto, nodesInto, differenceInto, differencesInto, tablesInto, readInto}
+use Rattle.sheet.specs.Fill.{Filled, filled, gotOn, fillOn, repeatInto, operandInto, operandsInto, nodeInto, nodesInto, differenceInto, differencesInto, windowsInto, cycleInto, rowsInto, tablesInto, readInto}
+use Rattle.sheet.proofs.Boxes.{boxes-tabled}
 
 -- a table is filled as a reader reads: both end alike, and where they go on the table is what `put` makes of the value
 data Fills {A : Type 0} (put : A → List ℕ) : Got A → Filled → Type 0 where
@@ -113,89 +115,176 @@ module _ (s : List ℕ) where
       all-rows differenceRow differencePlace s (λ i. differenceForm n) (differenceInto s n)
       (λ i at h. unfold differenceInto in one-row differenceRow (differencePlace i) h (read (differenceForm n) s at)) m 0 at d
 
+  windows-filled : (n : ℕ) (isBox : ℕ → Bool) (p count low at : ℕ) (g : List ℕ)
+      → Fills (λ ws. storeWindows g ws) (read (chain nextId (windowForm n isBox p) low count) s at) (windowsInto s n isBox p count low at g)
+  unfolding windowsInto gotOn storeWindows
+  windows-filled n isBox p zero low at g = went
+  windows-filled n isBox p (suc count) low at g =
+      subst (λ x. Fills (λ ws. storeWindows g ws) x (windowsInto s n isBox p (suc count) low at g)) (sym (read-chain nextId (windowForm n isBox p) low count s at))
+      (go (read (windowForm n isBox p low) s at) (λ w. windows-filled n isBox p count (nextId w)))
+    where
+      go : (x : Got Window)
+          → ((w : Window) (next : ℕ) (h : List ℕ) → Fills (λ ws. storeWindows h ws) (read (chain nextId (windowForm n isBox p) (nextId w) count) s next) (windowsInto s n isBox p count (nextId w) next h))
+          → Fills (λ ws. storeWindows g ws) (andThen x (λ w next. andThen (read (chain nextId (windowForm n isBox p) (nextId w) count) s next) (λ rest last. got (w ∷ rest) last)))
+          (fillOn x g (λ w next. windowsInto s n isBox p count (nextId w) next (storeFrom g (windowPlace (w .id)) (windowRow (w .from) (w .to)))))
+      go (got w next) rest = fills-map (λ ws. w ∷ ws) _ _ (rest w next (storeFrom g (windowPlace (w .id)) (windowRow (w .from) (w .to))))
+      go (refusal k q) rest = stopped
+
 -- what reading into tables of zeros leaves, against what the definition reads
 data Tied : Parsed → Tables → Type 0 where
-  some : {S : Sheet} → Tied (sheet S) (tables (header (headerOf S)) (graphOf S) (differencesOf S))
+  some : {S : Sheet} → Tied (sheet S) (tables (header (headerOf S) (S .period) (length (S .windows))) (graphOf S) (differencesOf S))
   none : {k p : ℕ} {g d : List ℕ} → Tied (refused k p) (tables (Answers.refusal k p) g d)
+
+abbrev nodesIn : List Node → List ℕ
+nodesIn vs = storeRows nodePlace noNodes 0 (map nodeRow vs)
+
+abbrev differencesIn : List Difference → List ℕ
+differencesIn ds = storeRows differencePlace noDifferences 0 (map differenceRow ds)
+
+-- a form of two parts and what is made of them
+read-made : {A B C : Type 0} (F : Form A) (f : A → B) (g : B → C) (s : List ℕ) (at : ℕ)
+    → read (_>>=_ (_>>=_ F (λ a. done (f a))) (λ b. done (g b))) s at ≡ andThen (read F s at) (λ a last. got (g (f a)) last)
+read-made {A} {B} {C} F f g s at =
+    read-bind (_>>=_ F (λ a. done (f a))) (λ b. done (g b)) s at
+    ∙ ap (λ (x : Got B). andThen x (λ b last. got (g b) last)) (read-bind F (λ a. done (f a)) s at)
+    ∙ go (read F s at)
+  where
+    go : (x : Got A) → andThen (andThen x (λ a last. got (f a) last)) (λ b last. got (g b) last) ≡ andThen x (λ a last. got (g (f a)) last)
+    go (got a last) = refl
+    go (refusal k p) = refl
 
 module _ (s : List ℕ) where
   -- ground 5, or the sheet
-  ended : (h : Header) (vs : List Node) (ds : List Difference) (last : ℕ) → length vs ≡ h .nodes → length ds ≡ h .differences
-      → Tied (whole s (got (sheetOf h vs ds) last))
-      (tables (cond (ltb last (length s)) (Answers.refusal 5 last) (header h))
-      (storeRows nodePlace noNodes 0 (map nodeRow vs)) (storeRows differencePlace noDifferences 0 (map differenceRow ds)))
+  ended : (h : Header) (vs : List Node) (ds : List Difference) (p count : ℕ) (ws : List Window) (last : ℕ)
+      → length vs ≡ h .nodes → length ds ≡ h .differences → length ws ≡ count
+      → Tied (whole s (got (sheetOf h vs ds (cycleOf p ws)) last))
+      (tables (cond (ltb last (length s)) (Answers.refusal 5 last) (header h p count)) (storeWindows (nodesIn vs) ws) (differencesIn ds))
   unfolding graphOf differencesOf
-  ended h vs ds last ev ed = go (ltb last (length s))
+  ended h vs ds p count ws last ev ed ew = go (ltb last (length s))
     where
-      same : headerOf (sheetOf h vs ds) ≡ h
-      same = λ i. record { leaves = h .leaves; top = h .top; horizon = h .horizon; nodes = ev i; differences = ed i }
+      S : Sheet
+      S = sheetOf h vs ds (cycleOf p ws)
 
-      go : (b : Bool) → Tied (cond b (refused 5 last) (sheet (sheetOf h vs ds)))
-          (tables (cond b (Answers.refusal 5 last) (header h)) (storeRows nodePlace noNodes 0 (map nodeRow vs)) (storeRows differencePlace noDifferences 0 (map differenceRow ds)))
+      same : header (headerOf S) p (length ws) ≡ header h p count
+      same = λ i. header (record { leaves = h .leaves; top = h .top; horizon = h .horizon; nodes = ev i; differences = ed i }) p (ew i)
+
+      go : (b : Bool) → Tied (cond b (refused 5 last) (sheet S)) (tables (cond b (Answers.refusal 5 last) (header h p count)) (storeWindows (nodesIn vs) ws) (differencesIn ds))
       go true = none
-      go false =
-          subst (λ (k : Header). Tied (sheet (sheetOf h vs ds)) (tables (header k) (graphOf (sheetOf h vs ds)) (differencesOf (sheetOf h vs ds)))) same some
+      go false = subst (λ (a : Answer). Tied (sheet S) (tables a (graphOf S) (differencesOf S))) same some
 
-  after-nodes : (h : Header) (vs : List Node) (next : ℕ) → length vs ≡ h .nodes → (x : Got (List Difference)) (t : Filled)
-      → read (times (h .differences) (differenceForm (h .nodes))) s next ≡ x
-      → Fills (λ ds. storeRows differencePlace noDifferences 0 (map differenceRow ds)) x t
-      → Tied (whole s (andThen x (λ ds last. got (sheetOf h vs ds) last)))
-      (gotOn (t .end) (λ k p. tables (Answers.refusal k p) (storeRows nodePlace noNodes 0 (map nodeRow vs)) (t .table))
-      (λ w last. tables (cond (ltb last (length s)) (Answers.refusal 5 last) (header h)) (storeRows nodePlace noNodes 0 (map nodeRow vs)) (t .table)))
-  unfolding gotOn
-  after-nodes h vs next ev (got ds last) t e went = ended h vs ds last ev (counted _ _ _ s next ds last e)
-  after-nodes h vs next ev (refusal k p) t e stopped = none
+  -- the period, the count and the entries
+  abbrev cycled : (h : Header) → List Node → List Difference → (isBox : ℕ → Bool) → (at : ℕ) → Got Sheet
+  cycled h vs ds isBox at =
+      andThen (inRange periodRange s at) (λ p next.
+      andThen (inRange (windowsRange (h .nodes)) s next) (λ count first.
+      andThen (read (chain nextId (windowForm (h .nodes) isBox p) 0 count) s first) (λ ws last. got (sheetOf h vs ds (cycleOf p ws)) last)))
 
-  after-header : (h : Header) (at : ℕ) (x : Got (List Node)) (t : Filled) → read (each (nodeForm (h .top)) 0 (h .nodes)) s at ≡ x
-      → Fills (λ vs. storeRows nodePlace noNodes 0 (map nodeRow vs)) x t
-      → Tied (whole s (andThen x (λ vs next. andThen (read (times (h .differences) (differenceForm (h .nodes))) s next) (λ ds last. got (sheetOf h vs ds) last))))
-      (gotOn (t .end) (λ k p. tables (Answers.refusal k p) (t .table) noDifferences) (λ u next.
-      gotOn (differencesInto s (h .nodes) (h .differences) next noDifferences .end)
-      (λ k p. tables (Answers.refusal k p) (t .table) (differencesInto s (h .nodes) (h .differences) next noDifferences .table))
-      (λ w last. tables (cond (ltb last (length s)) (Answers.refusal 5 last) (header h)) (t .table) (differencesInto s (h .nodes) (h .differences) next noDifferences .table))))
-  unfolding gotOn
-  after-header h at (got vs next) t e went =
-      after-nodes h vs next (counted _ _ _ s at vs next e) _ _ refl (differences-filled s (h .nodes) (h .differences) next noDifferences)
-  after-header h at (refusal k p) t e stopped = none
+  module _ (h : Header) (some-nodes : 1 ≤ h .nodes) where
+    after-count : (vs : List Node) (ds : List Difference) (isBox : ℕ → Bool) (p count first : ℕ) → length vs ≡ h .nodes → length ds ≡ h .differences
+        → (x : Got (List Window)) (t : Filled) → read (chain nextId (windowForm (h .nodes) isBox p) 0 count) s first ≡ x
+        → Fills (λ ws. storeWindows (nodesIn vs) ws) x t
+        → Tied (whole s (andThen x (λ ws last. got (sheetOf h vs ds (cycleOf p ws)) last)))
+        (gotOn (t .end) (λ k q. tables (Answers.refusal k q) (t .table) (differencesIn ds))
+        (λ u last. tables (cond (ltb last (length s)) (Answers.refusal 5 last) (header h p count)) (t .table) (differencesIn ds)))
+    unfolding gotOn
+    after-count vs ds isBox p count first ev ed (got ws last) t e went =
+        ended h vs ds p count ws last ev ed (windows-counted (h .nodes) isBox p 0 s first some-nodes count ws last e)
+    after-count vs ds isBox p count first ev ed (refusal k q) t e stopped = none
 
-  -- a sheet is read as its header, its nodes and its differences
+    after-differences : (vs : List Node) (ds : List Difference) (at : ℕ) → length vs ≡ h .nodes → length ds ≡ h .differences
+        → Tied (whole s (cycled h vs ds (boxesIn (nodesIn vs)) at)) (cycleInto s h at (nodesIn vs) (differencesIn ds))
+    unfolding gotOn cycleInto
+    after-differences vs ds at ev ed = go (inRange periodRange s at)
+      where
+        isBox : ℕ → Bool
+        isBox = boxesIn (nodesIn vs)
+
+        counted-on : (p : ℕ) (x : Got ℕ) → Tied
+            (whole s (andThen x (λ count first. andThen (read (chain nextId (windowForm (h .nodes) isBox p) 0 count) s first) (λ ws last. got (sheetOf h vs ds (cycleOf p ws)) last))))
+            (gotOn x (λ k q. tables (Answers.refusal k q) (nodesIn vs) (differencesIn ds)) (λ count first.
+            gotOn (windowsInto s (h .nodes) isBox p count 0 first (nodesIn vs) .end)
+            (λ k q. tables (Answers.refusal k q) (windowsInto s (h .nodes) isBox p count 0 first (nodesIn vs) .table) (differencesIn ds)) (λ u last.
+            tables (cond (ltb last (length s)) (Answers.refusal 5 last) (header h p count)) (windowsInto s (h .nodes) isBox p count 0 first (nodesIn vs) .table) (differencesIn ds))))
+        counted-on p (got count first) =
+            after-count vs ds isBox p count first ev ed _ _ refl (windows-filled s (h .nodes) isBox p count 0 first (nodesIn vs))
+        counted-on p (refusal k q) = none
+
+        go : (x : Got ℕ) → Tied
+            (whole s (andThen x (λ p next. andThen (inRange (windowsRange (h .nodes)) s next) (λ count first.
+            andThen (read (chain nextId (windowForm (h .nodes) isBox p) 0 count) s first) (λ ws last. got (sheetOf h vs ds (cycleOf p ws)) last)))))
+            (gotOn x (λ k q. tables (Answers.refusal k q) (nodesIn vs) (differencesIn ds)) (λ p next.
+            gotOn (inRange (windowsRange (h .nodes)) s next) (λ k q. tables (Answers.refusal k q) (nodesIn vs) (differencesIn ds)) (λ count first.
+            gotOn (windowsInto s (h .nodes) isBox p count 0 first (nodesIn vs) .end)
+            (λ k q. tables (Answers.refusal k q) (windowsInto s (h .nodes) isBox p count 0 first (nodesIn vs) .table) (differencesIn ds)) (λ u last.
+            tables (cond (ltb last (length s)) (Answers.refusal 5 last) (header h p count)) (windowsInto s (h .nodes) isBox p count 0 first (nodesIn vs) .table) (differencesIn ds)))))
+        go (got p next) = counted-on p (inRange (windowsRange (h .nodes)) s next)
+        go (refusal k q) = none
+
+    after-nodes : (vs : List Node) (next : ℕ) → length vs ≡ h .nodes → boxesIn (nodesIn vs) ≡ boxIn vs → (x : Got (List Difference)) (t : Filled)
+        → read (times (h .differences) (differenceForm (h .nodes))) s next ≡ x
+        → Fills (λ ds. differencesIn ds) x t
+        → Tied (whole s (andThen x (λ ds last. cycled h vs ds (boxIn vs) last)))
+        (gotOn (t .end) (λ k p. tables (Answers.refusal k p) (nodesIn vs) (t .table)) (λ w last. cycleInto s h last (nodesIn vs) (t .table)))
+    unfolding gotOn
+    after-nodes vs next ev boxes (got ds last) t e went =
+        subst (λ (isBox : ℕ → Bool). Tied (whole s (cycled h vs ds isBox last)) (cycleInto s h last (nodesIn vs) (differencesIn ds))) boxes
+        (after-differences vs ds last ev (counted _ _ _ s next ds last e))
+    after-nodes vs next ev boxes (refusal k p) t e stopped = none
+
+    after-header : (at : ℕ) → h .nodes ≤ 256 → (x : Got (List Node)) (t : Filled) → read (each (nodeForm (h .top)) 0 (h .nodes)) s at ≡ x
+        → Fills (λ vs. nodesIn vs) x t
+        → Tied (whole s (andThen x (λ vs next. andThen (read (times (h .differences) (differenceForm (h .nodes))) s next) (λ ds last. cycled h vs ds (boxIn vs) last))))
+        (gotOn (t .end) (λ k p. tables (Answers.refusal k p) (t .table) noDifferences) (λ u next.
+        gotOn (differencesInto s (h .nodes) (h .differences) next noDifferences .end)
+        (λ k p. tables (Answers.refusal k p) (t .table) (differencesInto s (h .nodes) (h .differences) next noDifferences .table))
+        (λ w last. cycleInto s h last (t .table) (differencesInto s (h .nodes) (h .differences) next noDifferences .table))))
+    unfolding gotOn
+    after-header at most (got vs next) t e went =
+        let ev = counted _ _ _ s at vs next e in
+        after-nodes vs next ev (boxes-tabled vs (nodes-few (h .top) (h .nodes) s at vs next e) (omega arith)) _ _ refl
+        (differences-filled s (h .nodes) (h .differences) next noDifferences)
+    after-header at most (refusal k p) t e stopped = none
+
+  -- a sheet is read as its header, its nodes, its differences, and its period and entries
   sheet-read : read sheetForm s 0
       ≡ andThen (read headerForm s 0) (λ h at.
       andThen (read (each (nodeForm (h .top)) 0 (h .nodes)) s at) (λ vs next.
-      andThen (read (times (h .differences) (differenceForm (h .nodes))) s next) (λ ds last. got (sheetOf h vs ds) last)))
-  unfolding sheetForm
+      andThen (read (times (h .differences) (differenceForm (h .nodes))) s next) (λ ds last. cycled h vs ds (boxIn vs) last)))
+  unfolding sheetForm cycleForm
   sheet-read =
-      let rest : Header → List Node → Form Sheet = λ h vs. _>>=_ (times (h .differences) (differenceForm (h .nodes))) (λ ds. done (sheetOf h vs ds)) in
+      let last : Header → List Node → List Difference → Form Sheet = λ h vs ds. _>>=_ (cycleForm (h .nodes) (boxIn vs)) (λ c. done (sheetOf h vs ds c)) in
+      let rest : Header → List Node → Form Sheet = λ h vs. _>>=_ (times (h .differences) (differenceForm (h .nodes))) (last h vs) in
       read-bind headerForm (λ h. _>>=_ (each (nodeForm (h .top)) 0 (h .nodes)) (rest h)) s 0
       ∙ then-same (read headerForm s 0) _ _ (λ h at.
       read-bind (each (nodeForm (h .top)) 0 (h .nodes)) (rest h) s at
       ∙ then-same (read (each (nodeForm (h .top)) 0 (h .nodes)) s at) _ _ (λ vs next.
-      read-bind (times (h .differences) (differenceForm (h .nodes))) (λ ds. done (sheetOf h vs ds)) s next))
+      read-bind (times (h .differences) (differenceForm (h .nodes))) (last h vs) s next
+      ∙ then-same (read (times (h .differences) (differenceForm (h .nodes))) s next) _ _ (λ ds end.
+      then-same (inRange periodRange s end) _ _ (λ p then.
+      then-same (inRange (windowsRange (h .nodes)) s then) _ _ (λ count first.
+      read-made (chain nextId (windowForm (h .nodes) (boxIn vs) p) 0 count) (cycleOf p) (sheetOf h vs ds) s first)))))
 
   tied : Tied (parse s) (readInto s)
   unfolding parse tablesInto gotOn
-  tied = subst (λ x. Tied (whole s x) (readInto s)) (sym sheet-read) (go (read headerForm s 0))
+  tied = subst (λ x. Tied (whole s x) (readInto s)) (sym sheet-read) (go (read headerForm s 0) refl)
     where
-      go : (x : Got Header) → Tied
+      go : (x : Got Header) → read headerForm s 0 ≡ x → Tied
           (whole s (andThen x (λ h at. andThen (read (each (nodeForm (h .top)) 0 (h .nodes)) s at) (λ vs next.
-          andThen (read (times (h .differences) (differenceForm (h .nodes))) s next) (λ ds last. got (sheetOf h vs ds) last)))))
-          (gotOn x (λ k p. tables (Answers.refusal k p) noNodes noDifferences) (λ h at.
-          gotOn (nodesInto s (h .top) (h .nodes) at noNodes .end)
-          (λ k p. tables (Answers.refusal k p) (nodesInto s (h .top) (h .nodes) at noNodes .table) noDifferences) (λ u next.
-          gotOn (differencesInto s (h .nodes) (h .differences) next noDifferences .end)
-          (λ k p. tables (Answers.refusal k p) (nodesInto s (h .top) (h .nodes) at noNodes .table) (differencesInto s (h .nodes) (h .differences) next noDifferences .table))
-          (λ w last. tables (cond (ltb last (length s)) (Answers.refusal 5 last) (header h)) (nodesInto s (h .top) (h .nodes) at noNodes .table) (differencesInto s (h .nodes) (h .differences) next noDifferences .table)))))
-      go (got h at) = after-header h at _ _ refl (nodes-filled s (h .top) (h .nodes) at noNodes)
-      go (refusal k p) = none
+          andThen (read (times (h .differences) (differenceForm (h .nodes))) s next) (λ ds last. cycled h vs ds (boxIn vs) last)))))
+          (gotOn x (λ k p. tables (Answers.refusal k p) noNodes noDifferences) (λ h at. rowsInto s h at noNodes noDifferences))
+      go (got h at) e =
+          let w = header-well s 0 h at e in
+          unfold rowsInto in after-header h (w .nodes .least) at (w .nodes .most) _ _ refl (nodes-filled s (h .top) (h .nodes) at noNodes)
+      go (refusal k p) e = none
 
   -- the answer was a header: the tables are the sheet's
-  pub read-whole : (a : Answer) (g d : List ℕ) → tables a g d ≡ readInto s → (h : Header) → a ≡ header h
+  pub read-whole : (a : Answer) (g d : List ℕ) → tables a g d ≡ readInto s → (h : Header) (p w : ℕ) → a ≡ header h p w
       → (g₀ d₀ : List ℕ) → tables a g d ≡ readAfter (parse s) g₀ d₀
-  read-whole a g d e h q g₀ d₀ = go (parse s) (readInto s) tied e
+  read-whole a g d e h p w q g₀ d₀ = go (parse s) (readInto s) tied e
     where
       go : (x : Parsed) (t : Tables) → Tied x t → tables a g d ≡ t → tables a g d ≡ readAfter x g₀ d₀
       go (sheet S) t some f = f
-      go (refused k p) t none f = let z : _≡_ {A = ℕ} 0 1 = cc (ap (λ (t : Tables). t .answer) f) in absurd (omega arith)
+      go (refused k r) t none f = let z : _≡_ {A = ℕ} 0 1 = cc (ap (λ (t : Tables). t .answer) f) in absurd (omega arith)
 
   -- the answer was a refusal: it is the definition's
   pub read-refused : (a : Answer) (g d : List ℕ) → tables a g d ≡ readInto s → (k p : ℕ) → a ≡ Answers.refusal k p

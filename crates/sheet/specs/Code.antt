@@ -1,13 +1,9 @@
 -- What the code's answers mean in document 01's terms.
-use mathlib.Core.Path.{_≡_}
 use Rattle.maps.specs.Number.{Got, got}
 use Rattle.maps.specs.Sheet.{Difference}
 use Rattle.maps.specs.Read.{Head, Header}
 use Rattle.types.specs.Code.{numberOf, placeOf}
-use Rattle.types.specs.declared.Refusal.{Refusal}
 use Rattle.number.specs.Code.{refusalMeant}
-use Rattle.number.specs.declared.Number.{Number}
-use Rattle.number.specs.declared.Number.the-variants.{Refused}
 use Rattle.rows.specs.Code.{headMeant, differenceMeant, headerMeant}
 use Rattle.sheet.specs.Answer.{Answer, header}
 use Rattle.sheet.specs.Answer as Answers
@@ -21,10 +17,6 @@ use Rattle.sheet.specs.declared.reader.HeaderRead.{HeaderRead}
 use Rattle.sheet.specs.declared.reader.HeaderRead.the-variants as O
 use Rattle.sheet.specs.declared.reader.Reading.{Reading}
 use Rattle.sheet.specs.declared.reader.Reading.the-variants as A
-
--- a number that was not read
-abbrev pub NotRead : Number → Type 0
-NotRead read = (why : Refusal) × (read ≡ Refused why)
 
 abbrev pub headRead : HeadRead → Got Head
 headRead (H.Head v next) = got (headMeant v) (next .at)
@@ -44,5 +36,5 @@ headerRead (O.Refused w) = refusalMeant w
 
 -- what reading a sheet answers
 abbrev pub answerMeant : Reading → Answer
-answerMeant (A.Sheet h) = header (headerMeant h)
+answerMeant (A.Sheet h) = header (headerMeant h) (h .period) (h .windows)
 answerMeant (A.Refused w) = Answers.refusal (numberOf w) (placeOf w)

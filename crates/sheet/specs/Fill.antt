@@ -1,13 +1,14 @@
 -- Reading into a table, step by step as the code does it: how it ends, and the table then, also where it is refused on the way.
 use Prim.Native.Nat.{ℕ, zero, suc, _+_}
-use mathlib.Core.Bool.{cond}
+use mathlib.Core.Bool.{Bool, cond}
 use mathlib.Core.List.{List, [], _∷_}
 use lib.Dec.{ltb}
 use lib.ListN.{length}
 use Rattle.maps.specs.Number.{Got, got, refusal}
-use Rattle.maps.specs.Form.{operand, read}
-use Rattle.maps.specs.Read.{Header, headForm, differenceForm, headerForm}
-use Rattle.rows.specs.Table.{storeFrom, headRow, differenceRow, nodePlace, operandPlace, differencePlace, noNodes, noDifferences}
+use Rattle.maps.specs.Form.{operand, inRange, read}
+use Rattle.maps.specs.Read.{Header, headForm, differenceForm, headerForm, windowForm, nextId}
+use Rattle.maps.specs.Limits.{periodRange, windowsRange}
+use Rattle.rows.specs.Table.{storeFrom, headRow, differenceRow, windowRow, nodePlace, operandPlace, windowPlace, differencePlace, boxesIn, noNodes, noDifferences}
 use Rattle.sheet.specs.Answer.{header, Tables, tables}
 use Rattle.sheet.specs.Answer as Answers
 
@@ -60,18 +61,37 @@ module _ (s : List ℕ) where
   abbrev pub differencesInto : (n m at : ℕ) → List ℕ → Filled
   differencesInto n m at g = repeatInto (differenceInto n) m 0 at g
 
-  -- the nodes and the differences of a sheet into two tables, and nothing after them
-  abbrev pub rowsInto : Header → (at : ℕ) → (graph differences : List ℕ) → Tables
+  -- document 02, U8: count entries from the id low on, "in rising id order", each to the row of its node
+  unfoldable pub windowsInto : (n : ℕ) → (isBox : ℕ → Bool) → (period count low at : ℕ) → List ℕ → Filled
+  unfolding gotOn storeFrom
+  windowsInto n isBox p zero low at g = filled (got tt at) g
+  windowsInto n isBox p (suc count) low at g =
+      fillOn (read (windowForm n isBox p low) s at) g (λ w next.
+      windowsInto n isBox p count (nextId w) next (storeFrom g (windowPlace (w .id)) (windowRow (w .from) (w .to))))
+
+  -- "a period P .., a count .., and that many entries" of a sheet whose nodes the table g holds, and nothing after them
+  unfoldable pub cycleInto : Header → (at : ℕ) → (graph differences : List ℕ) → Tables
+  unfolding gotOn windowsInto
+  cycleInto h at g d =
+      gotOn (inRange periodRange s at) (λ k p. tables (Answers.refusal k p) g d) (λ period next.
+      gotOn (inRange (windowsRange (h .nodes)) s next) (λ k p. tables (Answers.refusal k p) g d) (λ count first.
+      let ws = windowsInto (h .nodes) (boxesIn g) period count 0 first g in
+      gotOn (ws .end) (λ k p. tables (Answers.refusal k p) (ws .table) d) (λ u last.
+      tables (cond (ltb last (length s)) (Answers.refusal 5 last) (header h period count)) (ws .table) d)))
+
+  -- the nodes and the differences of a sheet into two tables, and then its period and entries
+  unfoldable pub rowsInto : Header → (at : ℕ) → (graph differences : List ℕ) → Tables
+  unfolding gotOn cycleInto
   rowsInto h at g d =
       let ns = nodesInto (h .top) (h .nodes) at g in
       gotOn (ns .end) (λ k p. tables (Answers.refusal k p) (ns .table) d) (λ u next.
       let ds = differencesInto (h .nodes) (h .differences) next d in
       gotOn (ds .end) (λ k p. tables (Answers.refusal k p) (ns .table) (ds .table)) (λ w last.
-      tables (cond (ltb last (length s)) (Answers.refusal 5 last) (header h)) (ns .table) (ds .table)))
+      cycleInto h last (ns .table) (ds .table)))
 
   -- a whole sheet into two tables
   unfoldable pub tablesInto : (graph differences : List ℕ) → Tables
-  unfolding gotOn
+  unfolding gotOn rowsInto
   tablesInto g d = gotOn (read headerForm s 0) (λ k p. tables (Answers.refusal k p) g d) (λ h at. rowsInto h at g d)
 
   -- the same into tables without a row

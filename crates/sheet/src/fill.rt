@@ -1,23 +1,26 @@
-// Reads nodes and differences into the two tables.
+// Reads nodes, differences and windows into the two tables.
 ghost use mathlib.Core.Path.{_≡_};
 ghost use Prim.Native.Nat.{_+_, _≤_, _<_};
 ghost use lib.ListN.{length};
-ghost use Rattle.maps.specs.Limits.{topRange, sizeRange};
+ghost use Rattle.maps.specs.Limits.{topRange, sizeRange, periodRange};
 ghost use Rattle.sheet.specs.Code.{progressMeant};
-ghost use Rattle.rows.specs.Table.{nodePlace, operandPlace, differencePlace};
-ghost use Rattle.sheet.specs.Fill.{filled, operandInto, operandsInto, nodeInto, nodesInto, differenceInto, differencesInto};
+ghost use Rattle.rows.specs.Table.{nodePlace, operandPlace, differencePlace, boxesIn};
+ghost use Rattle.sheet.specs.Fill.{filled, operandInto, operandsInto, nodeInto, nodesInto, differenceInto, differencesInto, windowsInto};
 use crate::node::DifferenceRead;
 use crate::node::HeadRead;
 use crate::node::difference_at;
 use crate::node::head_at;
-use crate::node::refusal_of;
 use number::Cursor;
 use number::Number;
 use number::operand_at;
+use number::refusal_of;
 use rows::store_difference;
 use rows::store_head;
 use rows::store_operand;
+use rows::store_window;
 use types::Refusal;
+use windows::WindowRead;
+use windows::window_at;
 
 // How far reading into a table came.
 pub enum Progress {
@@ -118,6 +121,39 @@ pub fn read_differences(sheet: &[u8], c: Cursor, n: u32, m: u32, table: &mut [u3
             return read;
         };
         at = next;
+        i += 1;
+    }
+    Progress::Next(at)
+}
+
+// Reads count entries, each into the row of its node.
+pub fn read_windows(
+    sheet: &[u8],
+    c: Cursor,
+    n: u32,
+    period: u32,
+    count: u32,
+    graph: &mut [u32],
+) -> Progress
+    requires { ⌜ (0 < n) × (n ≤ sizeRange .high) × (nodePlace n ≤ length (now graph)) × (0 < period) × (period ≤ periodRange .high) ⌝ }
+    ensures { λ r. ⌜ filled (progressMeant r) (now (graph .exit)) ≡ windowsInto (now (sheet .entry)) n (boxesIn (now (graph .entry))) period count 0 (c .at) (now (graph .entry)) ⌝ }
+{
+    let mut at = c;
+    let mut low = 0;
+    let mut i = 0;
+    while i < count {
+        let read = window_at(sheet, at, n, period, low, graph);
+        match read {
+            WindowRead::Refused(why) => {
+                return Progress::Refused(why);
+            }
+            WindowRead::Value(entry, next) => {
+                let id = entry.id;
+                store_window(graph, id, entry.window);
+                at = next;
+                low = id + 1;
+            }
+        }
         i += 1;
     }
     Progress::Next(at)

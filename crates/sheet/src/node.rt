@@ -4,12 +4,12 @@ ghost use Prim.Native.Nat.{_≤_, _<_};
 ghost use Rattle.maps.specs.Limits.{topRange, sizeRange};
 ghost use Rattle.maps.specs.Form.{read};
 ghost use Rattle.maps.specs.Read.{headForm, differenceForm, ahead, back};
-ghost use Rattle.sheet.specs.Code.{NotRead, headRead, differenceRead};
-ghost use Rattle.number.specs.declared.Number.the-variants as Number;
+ghost use Rattle.sheet.specs.Code.{headRead, differenceRead};
 use number::Cursor;
 use number::Number;
 use number::field_at;
 use number::field_in;
+use number::refusal_of;
 use ranges::Field;
 use ranges::range_of;
 use ranges::ranges_of;
@@ -29,17 +29,6 @@ pub enum HeadRead {
 pub enum DifferenceRead {
     Value(Difference, Cursor),
     Refused(Refusal),
-}
-
-// The refusal of a number that was not read.
-pub fn refusal_of(read: Number) -> Refusal
-    requires { ⌜ NotRead read ⌝ }
-    ensures { λ r. ⌜ read ≡ Number.Refused r ⌝ }
-{
-    match read {
-        Number::Refused(why) => why,
-        Number::Value { value: _, next: _ } => Refusal::Ended(0),
-    }
 }
 
 // The numbers of a node before its operand ids, where a step has the levels up to top.

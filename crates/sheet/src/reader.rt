@@ -1,25 +1,28 @@
-// Reads a whole sheet: the header, the nodes, the differences, and nothing after them.
+// Reads a whole sheet: the header, the nodes, the differences, the windows, and nothing after them.
 ghost use mathlib.Core.Path.{_≡_};
 ghost use Rattle.maps.specs.Form.{read};
 ghost use Rattle.maps.specs.Read.{headerForm};
-ghost use Prim.Native.Nat.{_≤_, _<_};
+ghost use mathlib.Core.List.{List};
+ghost use Prim.Native.Nat.{ℕ, _≤_, _<_};
 ghost use Rattle.maps.specs.Limits.{topRange, sizeRange, countRange};
 ghost use Rattle.rows.specs.Code.{headerMeant};
 ghost use Rattle.sheet.specs.Code.{headerRead, answerMeant};
 ghost use Rattle.sheet.specs.Answer.{tables};
-ghost use Rattle.sheet.specs.Fill.{rowsInto, tablesInto};
+ghost use Rattle.sheet.specs.Fill.{cycleInto, rowsInto, tablesInto};
 use crate::fill::Progress;
 use crate::fill::read_differences;
 use crate::fill::read_nodes;
-use crate::node::refusal_of;
+use crate::fill::read_windows;
 use number::Cursor;
 use number::Number;
 use number::field_at;
+use number::refusal_of;
 use ranges::Field;
 use rows::Differences;
 use rows::Graph;
 use rows::Header;
 use types::Refusal;
+use windows::count_at;
 
 // What reading the header gives.
 pub enum HeaderRead {
@@ -33,7 +36,7 @@ pub enum Reading {
     Refused(Refusal),
 }
 
-// The five numbers at the head of a sheet.
+// The five numbers at the head of a sheet, with a period of 1 and no entry.
 pub fn header_at(sheet: &[u8]) -> HeaderRead
     ensures { λ r. ⌜ headerRead r ≡ read headerForm (now (sheet .entry)) 0 ⌝ }
 {
@@ -84,12 +87,55 @@ pub fn header_at(sheet: &[u8]) -> HeaderRead
             horizon,
             nodes,
             differences,
+            period: 1,
+            windows: 0,
         },
         c5,
     )
 }
 
-// Reads the nodes and the differences of a sheet into the two tables, and nothing after them.
+// Reads the period and the entries of a sheet, whose nodes the table holds, and nothing after them.
+pub fn fill_cycle(sheet: &[u8], c: Cursor, header: Header, graph: &mut Graph) -> Reading
+    requires { ⌜ (0 < header .nodes) × (header .nodes ≤ sizeRange .high) ⌝ }
+    ensures { λ r. ⌜ ((d : List ℕ) → tables (answerMeant r) (now (graph .exit)) d ≡ cycleInto (now (sheet .entry)) (headerMeant header) (c .at) (now (graph .entry)) d) ⌝ }
+{
+    let period_read = field_at(sheet, c, Field::Period);
+    let Number::Value {
+        value: period,
+        next: c1,
+    } = period_read
+    else {
+        return Reading::Refused(refusal_of(period_read));
+    };
+    let count_read = count_at(sheet, c1, header.nodes);
+    let Number::Value {
+        value: windows,
+        next: c2,
+    } = count_read
+    else {
+        return Reading::Refused(refusal_of(count_read));
+    };
+    let rest = read_windows(sheet, c2, header.nodes, period, windows, graph);
+    match rest {
+        Progress::Refused(late) => Reading::Refused(late),
+        Progress::Next(end) => {
+            if end.at < sheet.len() {
+                return Reading::Refused(Refusal::Trailing(end.at));
+            }
+            Reading::Sheet(Header {
+                leaves: header.leaves,
+                top: header.top,
+                horizon: header.horizon,
+                nodes: header.nodes,
+                differences: header.differences,
+                period,
+                windows,
+            })
+        }
+    }
+}
+
+// Reads the nodes and the differences of a sheet into the two tables, and then its period and entries.
 pub fn fill_rows(
     sheet: &[u8],
     c: Cursor,
@@ -107,19 +153,14 @@ pub fn fill_rows(
             let rest = read_differences(sheet, next, header.nodes, header.differences, differences);
             match rest {
                 Progress::Refused(late) => Reading::Refused(late),
-                Progress::Next(end) => {
-                    if end.at < sheet.len() {
-                        return Reading::Refused(Refusal::Trailing(end.at));
-                    }
-                    Reading::Sheet(header)
-                }
+                Progress::Next(end) => fill_cycle(sheet, end, header, graph),
             }
         }
     }
 }
 
-// Reads a sheet: its header, and its nodes and differences into two tables, where all other numbers stay. A refusal leaves there what was read
-// before it.
+// Reads a sheet: its header, and its nodes, differences and windows into two tables, where all other numbers stay. A refusal leaves there what
+// was read before it.
 pub fn read_sheet(sheet: &[u8], graph: &mut Graph, differences: &mut Differences) -> Reading
     ensures { λ r. ⌜ tables (answerMeant r) (now (graph .exit)) (now (differences .exit)) ≡ tablesInto (now (sheet .entry)) (now (graph .entry)) (now (differences .entry)) ⌝ }
 {

@@ -10,7 +10,7 @@ use Rattle.looks.proofs.show_sheet.Tie as tie
 show-nodes-requires : tie.Need-show-nodes-requires
 show-nodes-requires c κs =
     let r = c .before .before in
-    let held = was-read _ _ _ _ (rw (r .reading2 .given .1) at (r .before .before .read-sheet .ensures)) in (
+    let held = was-read _ _ _ _ _ _ (rw (r .reading2 .given .1) at (r .before .before .read-sheet .ensures)) in (
       held .walks,
       (
         omega (arith, ap (λ (x : Header). x .nodes) (held .headed), held .well .size .most),

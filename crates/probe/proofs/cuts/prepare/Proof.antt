@@ -15,21 +15,21 @@ returns c = not-a-sheet _ _ _ _ _ (was-refused _ _ _ _ _ (rw (c .enum-told .give
 returns-3 : tie.Need-returns-3
 returns-3 c =
     let p = c .before .before .before in
-    let held = was-read _ _ _ _ (rw (p .before .reading .given .1) at (p .before .before .before .read-sheet .ensures)) in
+    let held = was-read _ _ _ _ _ _ (rw (p .before .reading .given .1) at (p .before .before .before .read-sheet .ensures)) in
     no-node _ _ _ _ _ _ held (c .if2 .taken)
 
 kind-in-requires : tie.Need-kind-in-requires
 kind-in-requires c κs =
     let e = c .before in
     let p = e .before .before .before in
-    let held = was-read _ _ _ _ (rw (p .before .reading .given .1) at (p .before .before .before .read-sheet .ensures)) in
+    let held = was-read _ _ _ _ _ _ (rw (p .before .reading .given .1) at (p .before .before .before .read-sheet .ensures)) in
     small held _ (e .if2 .left)
 
 set-codes-requires : tie.Need-set-codes-requires
 set-codes-requires c κs =
     let e = c .before .before .before .before .before .before in
     let p = e .before .before .before in
-    let held = was-read _ _ _ _ (rw (p .before .reading .given .1) at (p .before .before .before .read-sheet .ensures)) in
+    let held = was-read _ _ _ _ _ _ (rw (p .before .reading .given .1) at (p .before .before .before .read-sheet .ensures)) in
     small held _ (e .if2 .left)
 
 returns-4 : tie.Need-returns-4
@@ -37,7 +37,7 @@ returns-4 c =
     let k = c .before .before in
     let e = k .before .before in
     let p = e .before .before .before in
-    let held = was-read _ _ _ _ (rw (p .before .reading .given .1) at (p .before .before .before .read-sheet .ensures)) in
+    let held = was-read _ _ _ _ _ _ (rw (p .before .reading .given .1) at (p .before .before .before .read-sheet .ensures)) in
     no-logic _ _ _ _ _ _ held (e .if2 .left) (sym (ap isLogic (k .kind-in .ensures)) ∙ ap (λ (x : K.Kind). isLogic (kindMeant x)) (c .enum-told2 .given .1))
 
 returns-5 : tie.Need-returns-5
@@ -45,7 +45,7 @@ returns-5 c =
     let k = c .before .before in
     let e = k .before .before in
     let p = e .before .before .before in
-    let held = was-read _ _ _ _ (rw (p .before .reading .given .1) at (p .before .before .before .read-sheet .ensures)) in
+    let held = was-read _ _ _ _ _ _ (rw (p .before .reading .given .1) at (p .before .before .before .read-sheet .ensures)) in
     no-logic _ _ _ _ _ _ held (e .if2 .left) (sym (ap isLogic (k .kind-in .ensures)) ∙ ap (λ (x : K.Kind). isLogic (kindMeant x)) (c .enum-told3 .given .1))
 
 returns-6 : tie.Need-returns-6
@@ -54,7 +54,7 @@ returns-6 c =
     let k = t .before .before in
     let e = k .before .before in
     let p = e .before .before .before in
-    let held = was-read _ _ _ _ (rw (p .before .reading .given .1) at (p .before .before .before .read-sheet .ensures)) in
+    let held = was-read _ _ _ _ _ _ (rw (p .before .reading .given .1) at (p .before .before .before .read-sheet .ensures)) in
     prepared _ _ _ _ _ _ held _ _ (e .if2 .left) (sym (ap isLogic (k .kind-in .ensures)) ∙ ap (λ (x : K.Kind). isLogic (kindMeant x)) (t .enum-told4 .given .1)) (c .set-codes .ensures) (e .before .before .if1 .left)
 
 pub prepare-spec : {M : Type 1} → statement M

@@ -8,7 +8,7 @@ use Rattle.probe.proofs.reading.maps_read.Tie as tie
 returns : tie.Need-returns
 returns c =
     let e = rw (c .enum-told .given .1) at (c .before .before .read-sheet .ensures) in
-    exported _ _ _ _ (read-whole _ _ _ _ e _ refl _ _)
+    exported _ _ _ _ (read-whole _ _ _ _ e _ _ _ refl _ _)
 
 returns-2 : tie.Need-returns-2
 returns-2 c =
