@@ -77,10 +77,10 @@ module _ {S : Sheet} {graph differences : List ℕ} {limits : R.Header} (steps l
         f ∙ ap (λ (n : ℕ). flatPlan last n steps levels marks cuts) (k .nodes) ∙ plan-bytes S steps levels marks cuts c last e
 
 -- the tables and limits that a sheet was read into
-pub own : {bytes graph differences : List ℕ} {limits : R.Header} (h : Held bytes graph differences (headerMeant limits)) → Own (h .held) limits
+pub own : {bytes graph differences : List ℕ} {limits : R.Header} (h : Held bytes graph differences (headerMeant limits) (limits .period) (limits .windows)) → Own (h .held) limits
 own h = ap (λ (x : Header). x .horizon) (h .headed)
 
-pub given : {bytes graph differences : List ℕ} {limits : R.Header} (h : Held bytes graph differences (headerMeant limits)) → Given (h .held) graph differences limits
+pub given : {bytes graph differences : List ℕ} {limits : R.Header} (h : Held bytes graph differences (headerMeant limits) (limits .period) (limits .windows)) → Given (h .held) graph differences limits
 given h =
     record {
       well = h .well;
@@ -91,6 +91,8 @@ given h =
       near = omega (arith, own h, h .well .horizon .most);
       nodes = ap (λ (x : Header). x .nodes) (h .headed);
       count = ap (λ (x : Header). x .differences) (h .headed);
+      period = h .period;
+      windows = h .windows;
     }
 
 -- what the answer about the horizon comes to

@@ -19,8 +19,8 @@ use rows::store_head;
 use rows::store_operand;
 use rows::store_window;
 use types::Refusal;
-use windows::WindowRead;
-use windows::window_at;
+use window_read::WindowRead;
+use window_read::window_at;
 
 // How far reading into a table came.
 pub enum Progress {

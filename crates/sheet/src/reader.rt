@@ -22,7 +22,7 @@ use rows::Differences;
 use rows::Graph;
 use rows::Header;
 use types::Refusal;
-use windows::count_at;
+use window_read::count_at;
 
 // What reading the header gives.
 pub enum HeaderRead {

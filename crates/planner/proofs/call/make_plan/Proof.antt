@@ -11,7 +11,7 @@ plan-tables-requires : tie.Need-plan-tables-requires
 plan-tables-requires c κs =
     let r = c .before .before .before .before in
     let read = r .before .before in
-    let held = was-read _ _ _ _ (rw (r .reading2 .given .1) at (read .read-sheet .ensures)) in
+    let held = was-read _ _ _ _ _ _ (rw (r .reading2 .given .1) at (read .read-sheet .ensures)) in
     (held .walks, ((held .held, given held, own held), read .before .before .before .before .pre))
 
 returns : tie.Need-returns
@@ -21,7 +21,7 @@ returns c =
 returns-2 : tie.Need-returns-2
 returns-2 c =
     let r = c .before .before .before .before .before in
-    let held = was-read _ _ _ _ (rw (r .reading2 .given .1) at (r .before .before .read-sheet .ensures)) in
+    let held = was-read _ _ _ _ _ _ (rw (r .reading2 .given .1) at (r .before .before .read-sheet .ensures)) in
     let w = c .plan-tables .ensures in
     (λ room. sheet-outcome _ _ (held .reads) room ∙ w .0 (held .held) (given held) (own held) room, w .1)
 

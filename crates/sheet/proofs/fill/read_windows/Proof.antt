@@ -10,7 +10,7 @@ use Rattle.maps.specs.Form.{read}
 use Rattle.maps.specs.Read.{windowForm}
 use Rattle.maps.proofs.Parse.{window-inside}
 use Rattle.rows.specs.Table.{boxesIn}
-use Rattle.windows.specs.Code.{entryMeant, windowRead}
+use Rattle.window_read.specs.Code.{entryMeant, windowRead}
 use Rattle.sheet.specs.Fill.{windowsInto}
 use Rattle.sheet.proofs.Boxes.{boxes-kept}
 use Rattle.sheet.proofs.Turns.{window-turn, window-stop, windows-done}

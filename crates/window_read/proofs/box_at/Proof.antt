@@ -1,4 +1,4 @@
--- `windows::box_at` meets its contract: a number in the range of ids, and then the kind's test.
+-- `window_read::box_at` meets its contract: a number in the range of ids, and then the kind's test.
 use mathlib.Core.Path.{_≡_, sym, ap, _∙_}
 use native.Mathlib.Omega.{arith}
 use borrow.Author.Needs.{needs}
@@ -10,9 +10,9 @@ use Rattle.maps.proofs.Parse.{passed, in-range}
 use Rattle.ranges.proofs.RangeLaws.{ids-right, boxes-right}
 use Rattle.rows.specs.Table.{boxesIn}
 use Rattle.number.specs.Code.{numberMeant}
-use Rattle.windows.proofs.Boxed.{no-number, a-box, no-box}
-use Rattle.windows.proofs.box_at.Statement.{statement}
-use Rattle.windows.proofs.box_at.Tie as tie
+use Rattle.window_read.proofs.Boxed.{no-number, a-box, no-box}
+use Rattle.window_read.proofs.box_at.Statement.{statement}
+use Rattle.window_read.proofs.box_at.Tie as tie
 
 -- what is read in the range of ids from low on
 abbrev start : tie.After-field-in → tie.Start

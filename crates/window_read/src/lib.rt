@@ -7,7 +7,7 @@ ghost use Rattle.maps.specs.Form.{boxed, tested, inRange, read};
 ghost use Rattle.maps.specs.Read.{windowForm};
 ghost use Rattle.rows.specs.Table.{nodePlace, boxesIn};
 ghost use Rattle.number.specs.Code.{numberMeant};
-ghost use Rattle.windows.specs.Code.{windowRead};
+ghost use Rattle.window_read.specs.Code.{windowRead};
 use number::Cursor;
 use number::Number;
 use number::field_in;

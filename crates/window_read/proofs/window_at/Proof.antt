@@ -1,4 +1,4 @@
--- `windows::window_at` meets its contract: one number after the other, as the definition reads them.
+-- `window_read::window_at` meets its contract: one number after the other, as the definition reads them.
 use mathlib.Core.Path.{sym, ap, _∙_}
 use native.Mathlib.Omega.{arith}
 use borrow.Author.Needs.{needs}
@@ -8,8 +8,8 @@ use Rattle.maps.specs.WellFormed.{Within}
 use Rattle.maps.specs.Read.{windowForm}
 use Rattle.maps.proofs.Parse.{passed, in-range}
 use Rattle.number.specs.Code.{numberMeant}
-use Rattle.windows.proofs.window_at.Statement.{statement}
-use Rattle.windows.proofs.window_at.Tie as tie
+use Rattle.window_read.proofs.window_at.Statement.{statement}
+use Rattle.window_read.proofs.window_at.Tie as tie
 
 to-at-requires : tie.Need-to-at-requires
 to-at-requires c κs =

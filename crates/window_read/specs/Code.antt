@@ -2,9 +2,9 @@
 use Rattle.maps.specs.Number.{Got, got}
 use Rattle.maps.specs.Sheet.{Window}
 use Rattle.number.specs.Code.{refusalMeant}
-use Rattle.windows.specs.declared.Entry.{Entry}
-use Rattle.windows.specs.declared.WindowRead.{WindowRead}
-use Rattle.windows.specs.declared.WindowRead.the-variants as W
+use Rattle.window_read.specs.declared.Entry.{Entry}
+use Rattle.window_read.specs.declared.WindowRead.{WindowRead}
+use Rattle.window_read.specs.declared.WindowRead.the-variants as W
 
 abbrev pub entryMeant : Entry → Window
 entryMeant e = record { id = e .id; from = e .window .from; to = e .window .to }

@@ -1,8 +1,8 @@
--- `windows::count_at` meets its contract: the range is that of the nodes.
+-- `window_read::count_at` meets its contract: the range is that of the nodes.
 use borrow.Author.Needs.{needs}
 use Rattle.ranges.proofs.RangeLaws.{windows-right}
-use Rattle.windows.proofs.count_at.Statement.{statement}
-use Rattle.windows.proofs.count_at.Tie as tie
+use Rattle.window_read.proofs.count_at.Statement.{statement}
+use Rattle.window_read.proofs.count_at.Tie as tie
 
 returns : tie.Need-returns
 returns c =

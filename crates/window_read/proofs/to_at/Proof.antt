@@ -1,8 +1,8 @@
--- `windows::to_at` meets its contract: the range is that of the period, from the number after `from` on.
+-- `window_read::to_at` meets its contract: the range is that of the period, from the number after `from` on.
 use borrow.Author.Needs.{needs}
 use Rattle.ranges.proofs.RangeLaws.{ends-right, to-right}
-use Rattle.windows.proofs.to_at.Statement.{statement}
-use Rattle.windows.proofs.to_at.Tie as tie
+use Rattle.window_read.proofs.to_at.Statement.{statement}
+use Rattle.window_read.proofs.to_at.Tie as tie
 
 returns : tie.Need-returns
 returns c =

@@ -1,8 +1,8 @@
--- `windows::from_at` meets its contract: the range is that of the period.
+-- `window_read::from_at` meets its contract: the range is that of the period.
 use borrow.Author.Needs.{needs}
 use Rattle.ranges.proofs.RangeLaws.{from-right}
-use Rattle.windows.proofs.from_at.Statement.{statement}
-use Rattle.windows.proofs.from_at.Tie as tie
+use Rattle.window_read.proofs.from_at.Statement.{statement}
+use Rattle.window_read.proofs.from_at.Tie as tie
 
 returns : tie.Need-returns
 returns c =
