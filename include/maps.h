@@ -12,22 +12,25 @@
  * Promised of maps_plan:
  *  - It refuses with 1 to 8 and 12. If several grounds hold: 1 to 4 at the first number in the sheet that fails, spelling before value; then 5, 6,
  *    12, 7, 8.
- *  - Refused for time, by 7 or 12, is exactly the sheet that has no legal labels within H. 7: a larger H would do, or would if H could be larger than
- *    65,535. 12: no horizon would, some wishes of the sheet clash, and raising H never helps.
+ *  - Refused for time, by 7 or 12, is exactly the sheet that has no legal labels within H. Of a sheet without windows 7 says that a larger H would do,
+ *    or would if H could be larger than 65,535, and 12 that no horizon would: some wishes of the sheet clash, and raising H never helps. A sheet with
+ *    windows, one or more, whatever they close, gets 7 in both cases and never 12.
+ *  - A box with a window starts in an open step: the step of its label is held to the window, not that of its ready label.
  *  - The labels of a plan are the least legal ones, and the cuts are the chosen ones under those labels.
  *  - The first number of a plan, its latency, is the greatest ready step among outputs, of any kind, and 0 where there is none; no legal labels have a
  *    smaller one. A node that is no output may be ready later, within H.
  *
  * Promised of maps_write:
  *  - It refuses with 3, 4 and 8: 3 or 4 at the first number of the sheet that a reader would refuse, and place is which number of the sheet that
- *    is, from 0; then 8. n, m and operand counts are how many were given, and are judged as the other numbers are.
+ *    is, from 0; then 8. n, m, operand counts and the count of windows are how many were given, and are judged as the other numbers are.
  *  - Reading the sheet that was written gives the records again, and the records of a sheet that reads give the bytes of that sheet.
  *
  * Promised of maps_import:
  *  - It refuses with 8 to 11. First the caller's numbers and a text longer than MAPS_TEXT_MOST, 11 at place 0; then the first faulty line decides,
  *    and on one line 9, 10, 11 in that order; then an output without definition, 10 at its line; then 8.
- *  - The nodes of the sheet are the model's, in the order in which their names are defined, with the outputs marked and without differences: a .names
- *    is logic, or an input if it reads nothing; a .latch is a box with d = 0, lat = 1 and q = 0. The d of logic is table_ps / level_ps, rounded up.
+ *  - The nodes of the sheet are the model's, in the order in which their names are defined, with the outputs marked, without differences and windows,
+ *    and with P = 1: a .names is logic, or an input if it reads nothing; a .latch is a box with d = 0, lat = 1 and q = 0. The d of logic is
+ *    table_ps / level_ps, rounded up.
  *  - The sheet reads: maps_plan refuses it with none of 1 to 5.
  *
  * Asked of the caller: `sheet` of maps_plan, what the records of maps_write point to and `text` of maps_import are readable and the buffer is
@@ -54,8 +57,9 @@ extern "C" {
 #define MAPS_PLAN_MOST 4611
 
 /* Bytes that no sheet exceeds: 9 for the header (1 each for K and T, 3 for H, 2 each for n and m), 19 for each of 256 nodes (1 each for kind, mark,
- * d, q and operand count, 2 for lat, 2 for each of 6 operands), 7 for each of 1,024 differences (2 each for u and v, 3 for w). */
-#define MAPS_SHEET_MOST 12041
+ * d, q and operand count, 2 for lat, 2 for each of 6 operands), 7 for each of 1,024 differences (2 each for u and v, 3 for w), 1 for P, 2 for the
+ * count of windows, 4 for each of 256 windows (2 for the box, 1 each for from and to). */
+#define MAPS_SHEET_MOST 13068
 
 /* Bytes of the longest text that maps_import takes. */
 #define MAPS_TEXT_MOST 65536
@@ -80,13 +84,13 @@ enum maps_number {
     MAPS_OPERAND = 4,      /* an operand id is not below the node's own; place: that number */
     MAPS_BYTES_FOLLOW = 5, /* bytes follow the last number; place: the first of them */
     MAPS_NO_CUT = 6,       /* a logic node has no fitting cut; place: the lowest such id */
-    MAPS_LATE = 7,         /* no legal labelling within H, but within a larger horizon; place: 0 */
+    MAPS_LATE = 7,         /* no legal labelling within H; of a sheet without windows: but within a larger horizon; place: 0 */
     MAPS_BUFFER_SHORT = 8, /* the buffer is shorter than what would be written; place: that length */
     MAPS_SUBSET = 9,       /* a line outside the subset or a row of wrong width; place: the line, from 1, and of joined lines the first; a missing
                             * .end: one line past the last */
     MAPS_NAME = 10,        /* a name read before it is defined, defined twice or put out without definition; place: the line */
     MAPS_LIMIT = 11,       /* a limit; place: the line, 0 for the caller's numbers and for a text longer than MAPS_TEXT_MOST */
-    MAPS_NEVER = 12        /* no legal labelling under any horizon; place: 0 */
+    MAPS_NEVER = 12        /* no legal labelling under any horizon, of a sheet without windows; place: 0 */
 };
 
 /* Plans a sheet into a buffer. */
@@ -131,7 +135,16 @@ struct maps_difference {
     int32_t weight; /* w */
 };
 
-/* The records of a sheet. A node's id is its index in `nodes`. A pointer whose count is 0 may be null. */
+/* A window: the box may start in step s only if the remainder of s by the period is at least `from` and below `to`. Windows stand in rising order of
+ * their boxes, one for a box; `from` is 0 to P - 1, `to` is from + 1 to P. */
+struct maps_window {
+    uint32_t box;  /* the box's id */
+    uint32_t from; /* the first open remainder */
+    uint32_t to;   /* the first closed one after it, or P */
+};
+
+/* The records of a sheet. A node's id is its index in `nodes`. A pointer whose count is 0 may be null. The period is judged also where there are no
+ * windows, and 0 is out of its range: records from before there were windows need `period = 1`. */
 struct maps_sheet {
     uint32_t leaves;  /* K */
     uint32_t top;     /* T */
@@ -142,17 +155,21 @@ struct maps_sheet {
     size_t operand_count; /* of all nodes */
     const struct maps_difference *differences;
     size_t difference_count; /* m */
+    uint32_t period;         /* P, 1 to 64 */
+    const struct maps_window *windows;
+    size_t window_count; /* at most n */
 };
 
-/* The call that maps_write makes: the records as rows of 32-bit numbers, six for a node (kind, output, delay, latency, operands_end, clock_to_q) and
- * three for a difference, with w as the 32 bits of a signed number. The lengths count numbers; an incomplete row at the end is ignored. No pointer
- * may be null. */
+/* The call that maps_write makes: the records as rows of 32-bit numbers, six for a node (kind, output, delay, latency, operands_end, clock_to_q),
+ * three for a difference, with w as the 32 bits of a signed number, and three for a window (box, from, to). The lengths count numbers; an incomplete
+ * row at the end is ignored. No pointer may be null. */
 struct maps_answer maps_write_rows(uint32_t leaves, uint32_t top, uint32_t horizon, const uint32_t *nodes, size_t nodes_len,
                                    const uint32_t *operands, size_t operands_len, const uint32_t *differences, size_t differences_len,
-                                   uint8_t *sheet, size_t sheet_len);
+                                   uint32_t period, const uint32_t *windows, size_t windows_len, uint8_t *sheet, size_t sheet_len);
 
 static_assert(sizeof(struct maps_node) == 6 * sizeof(uint32_t), "a node is a row of six numbers");
 static_assert(sizeof(struct maps_difference) == 3 * sizeof(uint32_t), "a difference is a row of three numbers");
+static_assert(sizeof(struct maps_window) == 3 * sizeof(uint32_t), "a window is a row of three numbers");
 
 /* Writes the sheet of records into a buffer. The records are handed over where they stand. */
 static inline struct maps_answer maps_write(const struct maps_sheet *records, uint8_t *sheet, size_t sheet_len) {
@@ -160,8 +177,9 @@ static inline struct maps_answer maps_write(const struct maps_sheet *records, ui
     const uint32_t *nodes = records->node_count == 0 ? &none : (const uint32_t *)records->nodes;
     const uint32_t *operands = records->operand_count == 0 ? &none : records->operands;
     const uint32_t *differences = records->difference_count == 0 ? &none : (const uint32_t *)records->differences;
+    const uint32_t *windows = records->window_count == 0 ? &none : (const uint32_t *)records->windows;
     return maps_write_rows(records->leaves, records->top, records->horizon, nodes, 6 * records->node_count, operands, records->operand_count,
-                           differences, 3 * records->difference_count, sheet, sheet_len);
+                           differences, 3 * records->difference_count, records->period, windows, 3 * records->window_count, sheet, sheet_len);
 }
 
 /* Asks for the length of the sheet of records and writes none: number 0 and, as place, the length in bytes where the records have a sheet, otherwise

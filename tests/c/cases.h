@@ -1,5 +1,5 @@
-/* What the C tests share: the hall sheet of document 01, with q = 0 in its nodes, and its plan, the count of cases, and known bytes round a
- * buffer. */
+/* What the C tests share: the hall sheet of document 01, with q = 0 in its nodes and P = 1 and no windows at its end, and its plan, the count of
+ * cases, and known bytes round a buffer. */
 #ifndef CASES_H
 #define CASES_H
 
@@ -20,7 +20,11 @@
     0x01, 0x00, 0x01, 0x00, 0x00, 0x02, 0x03, 0x02, \
     0x01, 0x01, 0x01, 0x00, 0x00, 0x02, 0x04, 0x03
 
-static const uint8_t HALL[50] = {0x03, 0x02, 0x04, 0x06, 0x01, HALL_NODES, 0x00, 0x05, 0x02};
+static const uint8_t HALL[52] = {0x03, 0x02, 0x04, 0x06, 0x01, HALL_NODES, 0x00, 0x05, 0x02, 0x01, 0x00};
+
+/* The place of w in the hall sheet, and of P. */
+#define HALL_WEIGHT 49
+#define HALL_PERIOD 50
 
 static const uint8_t HALL_PLAN[29] = {
     0x01,

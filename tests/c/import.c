@@ -33,7 +33,7 @@ static const char HALL_TEXT[] =
     "10 0\n"
     ".end\n";
 
-static const uint8_t HALL_SHEET[47] = {0x03, 0x02, 0x04, 0x06, 0x00, HALL_NODES};
+static const uint8_t HALL_SHEET[49] = {0x03, 0x02, 0x04, 0x06, 0x00, HALL_NODES, 0x01, 0x00};
 
 /* A text that is made here. */
 static char made[2 * MAPS_TEXT_MOST];
@@ -69,11 +69,13 @@ static void refused(const char *name, const char *text, uint64_t number, uint64_
     check(answered(text, strlen(text), &PLAIN, number, place, NULL), name);
 }
 
-/* One case of a text whose nodes, after the header 3, 2, 4, n, 0, are these bytes; also in an exact buffer, with one byte more and with one less. */
+/* One case of a text whose nodes, between the header 3, 2, 4, n, 0 and the end 1, 0, are these bytes; also in an exact buffer, with one byte more and
+ * with one less. */
 static void taken(const char *name, const char *text, uint8_t n, const uint8_t *nodes, size_t nodes_length) {
     uint8_t sheet[256] = {3, 2, 4, n, 0};
     memcpy(sheet + 5, nodes, nodes_length);
-    size_t length = strlen(text), sheet_length = 5 + nodes_length;
+    sheet[5 + nodes_length] = 1;
+    size_t length = strlen(text), sheet_length = 5 + nodes_length + 2;
     int holds = answered(text, length, &PLAIN, MAPS_ACCEPTED, sheet_length, sheet);
     holds = imported(text, length, &PLAIN, sheet_length, MAPS_ACCEPTED, sheet_length, sheet) && holds;
     holds = imported(text, length, &PLAIN, sheet_length + 1, MAPS_ACCEPTED, sheet_length, sheet) && holds;
@@ -136,7 +138,7 @@ static void the_hall(void) {
 /* A latch has q = 0: what reads it is at level d of its last step. */
 static void a_latch(void) {
     static const char text[] = ".model m\n.inputs a\n.outputs c\n.latch a b\n.names b c\n1 1\n.end\n";
-    static const uint8_t latch_sheet[] = {3, 2, 4, 3, 0, 0, 0, 0, 0, 0, 0, 2, 0, 0, 1, 0, 1, 0, 1, 1, 1, 0, 0, 1, 1};
+    static const uint8_t latch_sheet[] = {3, 2, 4, 3, 0, 0, 0, 0, 0, 0, 0, 2, 0, 0, 1, 0, 1, 0, 1, 1, 1, 0, 0, 1, 1, 1, 0};
     static const uint8_t latch_plan[] = {1, 0, 0, 1, 0, 0, 0, 1, 0, 1, 1, 1, 1, 1};
     uint8_t plan[MAPS_PLAN_MOST];
     int holds = answered(text, sizeof text - 1, &PLAIN, MAPS_ACCEPTED, sizeof latch_sheet, latch_sheet);
@@ -216,11 +218,11 @@ static void limits(void) {
     add("\n.inputs ", 1);
     add("y", 31);
     add("\n.end", 1);
-    made_is("names of 31 bytes", MAPS_ACCEPTED, 11);
+    made_is("names of 31 bytes", MAPS_ACCEPTED, 13);
     make(".model m\n.inputs");
     add_names(256);
     add("\n.end", 1);
-    made_is("256 nodes", MAPS_ACCEPTED, 6 + 256 * 6);
+    made_is("256 nodes", MAPS_ACCEPTED, 6 + 256 * 6 + 2);
     make(".model m\n.inputs");
     add_names(257);
     add("\n.end", 1);
@@ -272,17 +274,17 @@ static void caller(void) {
             check(answered("x", 1, c, MAPS_LIMIT, 0, NULL) && holds, name);
         } else {
             const uint8_t header[] = {(uint8_t)c->leaves, (uint8_t)c->top, (uint8_t)c->horizon, 2, 0};
-            uint8_t sheet[18] = {0, 0, 0, 0, 0, 0, 0, 0, 0, 0, 0, 1, 0, (uint8_t)cases[i].delay, 0, 0, 1, 0};
+            uint8_t sheet[20] = {0, 0, 0, 0, 0, 0, 0, 0, 0, 0, 0, 1, 0, (uint8_t)cases[i].delay, 0, 0, 1, 0, 1, 0};
             memcpy(sheet, header, sizeof header);
             check(answered(text, strlen(text), c, MAPS_ACCEPTED, sizeof sheet, sheet), name);
         }
     }
     static const struct caller far = {3, 2, 65535, 1, 1};
-    static const uint8_t far_sheet[] = {3, 2, 0xff, 0xff, 0x03, 2, 0, 0, 0, 0, 0, 0, 0, 1, 0, 1, 0, 0, 1, 0};
+    static const uint8_t far_sheet[] = {3, 2, 0xff, 0xff, 0x03, 2, 0, 0, 0, 0, 0, 0, 0, 1, 0, 1, 0, 0, 1, 0, 1, 0};
     check(answered(text, strlen(text), &far, MAPS_ACCEPTED, sizeof far_sheet, far_sheet), "H = 65,535");
     make(".model m\n.inputs a\n.end\n");
     add("\n", MAPS_TEXT_MOST - made_length);
-    made_is("a text of 65,536 bytes", MAPS_ACCEPTED, 11);
+    made_is("a text of 65,536 bytes", MAPS_ACCEPTED, 13);
     add("\n", 1);
     made_is("11: a text of 65,537 bytes", MAPS_LIMIT, 0);
     make("x");

@@ -13,14 +13,17 @@
 static struct maps_node nodes[257];
 static uint32_t operands[6 * 257];
 static struct maps_difference differences[1025];
+static struct maps_window windows[257];
 static struct maps_sheet records;
 
-/* Places of numbers in the hall sheet: the first of a node, and of its difference. */
-enum { NODE_0 = 5, NODE_2 = 17, NODE_3 = 23, NODE_4 = 31, NODE_5 = 39, DIFFERENCE = 47 };
+/* Places of numbers in the hall sheet: the first of a node, and of its difference, P, the count of windows and the first of a window. */
+enum { NODE_0 = 5, NODE_2 = 17, NODE_3 = 23, NODE_4 = 31, NODE_5 = 39, DIFFERENCE = 47, PERIOD = 50, WINDOWS = 51, WINDOW = 52 };
 /* Places in a node. */
 enum { KIND, MARK, DELAY, LATENCY, CLOCK_TO_Q, COUNT, OPERANDS };
+/* Places in a window. */
+enum { BOX, FROM, TO };
 
-/* Sets the records to those of hall; all nodes past it are inputs, all operands 0, all differences (0, 0, 0). */
+/* Sets the records to those of hall; all nodes past it are inputs, all operands 0, all differences (0, 0, 0), all windows (0, 0, 0). */
 static void hall(void) {
     static const struct maps_node hall_nodes[6] = {
         {MAPS_INPUT, 0, 0, 0, 0, 0}, {MAPS_INPUT, 0, 0, 0, 0, 0}, {MAPS_INPUT, 0, 0, 0, 0, 0},
@@ -30,10 +33,11 @@ static void hall(void) {
     memset(nodes, 0, sizeof nodes);
     memset(operands, 0, sizeof operands);
     memset(differences, 0, sizeof differences);
+    memset(windows, 0, sizeof windows);
     memcpy(nodes, hall_nodes, sizeof hall_nodes);
     memcpy(operands, hall_operands, sizeof hall_operands);
     differences[0] = (struct maps_difference){0, 5, 1};
-    records = (struct maps_sheet){3, 2, 4, nodes, 6, operands, 6, differences, 1};
+    records = (struct maps_sheet){3, 2, 4, nodes, 6, operands, 6, differences, 1, 1, NULL, 0};
 }
 
 /* Writes the records into `room` bytes between two strips. The number and place are those given; on number 0 the buffer begins with `sheet`, where
@@ -177,8 +181,9 @@ static void stored(void) {
     for (size_t i = 0; i < sizeof weights / sizeof *weights; i++) {
         size_t length = weights[i].length;
         differences[0].weight = weights[i].value;
-        memcpy(sheet, HALL, sizeof HALL - 1);
-        memcpy(sheet + sizeof HALL - 1, weights[i].bytes, length);
+        memcpy(sheet, HALL, HALL_WEIGHT);
+        memcpy(sheet + HALL_WEIGHT, weights[i].bytes, length);
+        memcpy(sheet + HALL_WEIGHT + length, HALL + HALL_PERIOD, sizeof HALL - HALL_PERIOD);
         holds = answered(MAPS_ACCEPTED, sizeof HALL - 1 + length, sheet) && holds;
     }
     check(holds, "w of one, two and three bytes");
@@ -274,31 +279,33 @@ static void rows(void) {
     static const struct maps_node falling[4] = {
         {MAPS_INPUT, 0, 0, 0, 0, 0}, {MAPS_BOX, 0, 0, 0, 1, 0}, {MAPS_BOX, 0, 0, 0, 0, 0}, {MAPS_BOX, 1, 0, 0, 3, 0}};
     static const uint32_t three[3] = {0, 1, 2};
-    static const uint8_t falling_sheet[] = {2, 1, 0, 4, 0, 0, 0, 0, 0, 0, 0, 2, 0, 0, 0, 0, 1, 0, 2, 0, 0, 0, 0, 0, 2, 1, 0, 0, 0, 3, 0, 1, 2};
-    records = (struct maps_sheet){2, 1, 0, falling, 4, three, 3, NULL, 0};
+    static const uint8_t falling_sheet[] = {2, 1, 0, 4, 0, 0, 0, 0, 0, 0, 0, 2, 0, 0, 0, 0, 1, 0, 2, 0, 0, 0, 0, 0, 2, 1, 0, 0, 0, 3, 0, 1, 2, 1, 0};
+    records = (struct maps_sheet){2, 1, 0, falling, 4, three, 3, NULL, 0, 1, NULL, 0};
     expect("an end that falls: no operands, and the next from there", MAPS_ACCEPTED, sizeof falling_sheet, falling_sheet);
     static const struct maps_node past[4] = {
         {MAPS_INPUT, 0, 0, 0, 0, 0}, {MAPS_BOX, 0, 0, 0, 4, 0}, {MAPS_BOX, 0, 0, 0, 9, 0}, {MAPS_BOX, 1, 0, 0, 2, 0}};
     static const uint32_t zeros[3] = {0, 0, 0};
-    static const uint8_t past_sheet[] = {2, 1, 0, 4, 0, 0, 0, 0, 0, 0, 0, 2, 0, 0, 0, 0, 3, 0, 0, 0, 2, 0, 0, 0, 0, 0, 2, 1, 0, 0, 0, 0};
-    records = (struct maps_sheet){2, 1, 0, past, 4, zeros, 3, NULL, 0};
+    static const uint8_t past_sheet[] = {2, 1, 0, 4, 0, 0, 0, 0, 0, 0, 0, 2, 0, 0, 0, 0, 3, 0, 0, 0, 2, 0, 0, 0, 0, 0, 2, 1, 0, 0, 0, 0, 1, 0};
+    records = (struct maps_sheet){2, 1, 0, past, 4, zeros, 3, NULL, 0, 1, NULL, 0};
     expect("ends past the array, and one that falls after them", MAPS_ACCEPTED, sizeof past_sheet, past_sheet);
-    static const uint8_t one_input[] = {2, 1, 0, 1, 0, 0, 0, 0, 0, 0, 0};
-    records = (struct maps_sheet){2, 1, 0, falling, 1, NULL, 0, NULL, 0};
-    expect("one input, no operands and differences, null", MAPS_ACCEPTED, sizeof one_input, one_input);
-    records = (struct maps_sheet){2, 1, 0, NULL, 0, NULL, 0, NULL, 0};
+    static const uint8_t one_input[] = {2, 1, 0, 1, 0, 0, 0, 0, 0, 0, 0, 1, 0};
+    records = (struct maps_sheet){2, 1, 0, falling, 1, NULL, 0, NULL, 0, 1, NULL, 0};
+    expect("one input, no operands, differences and windows, null", MAPS_ACCEPTED, sizeof one_input, one_input);
+    records = (struct maps_sheet){2, 1, 0, NULL, 0, NULL, 0, NULL, 0, 1, NULL, 0};
     expect("3: no nodes, null", MAPS_VALUE, 3, NULL);
-    static const uint32_t pair[17] = {0, 0, 0, 0, 0, 0, 0, 0, 0, 0, 0, 0, 9, 9, 9, 9, 9};
+    static const uint32_t pair[17] = {0, 0, 0, 0, 0, 0, 2, 0, 0, 0, 0, 0, 9, 9, 9, 9, 9};
     static const uint32_t equal[5] = {0, 1, UINT32_MAX, 9, 9};
-    static const uint8_t pair_sheet[] = {2, 1, 0, 2, 1, 0, 0, 0, 0, 0, 0, 0, 0, 0, 0, 0, 0, 0, 1, 1};
+    static const uint32_t slot[5] = {1, 2, 4, 9, 9};
+    static const uint8_t pair_sheet[] = {2, 1, 0, 2, 1, 0, 0, 0, 0, 0, 0, 2, 0, 0, 0, 0, 0, 0, 1, 1, 8, 1, 1, 2, 4};
     uint8_t sheet[sizeof pair_sheet];
     int holds = 1;
     for (size_t more = 0; more < 6; more++) {
         size_t few = more < 3 ? more : 2;
         memset(sheet, 0xa5, sizeof sheet);
-        holds = same(maps_write_rows(2, 1, 0, pair, 12 + more, three, 0, equal, 3 + few, sheet, sizeof sheet), 0, sizeof sheet) && holds;
+        struct maps_answer answer = maps_write_rows(2, 1, 0, pair, 12 + more, three, 0, equal, 3 + few, 8, slot, 3 + few, sheet, sizeof sheet);
+        holds = same(answer, MAPS_ACCEPTED, sizeof sheet) && holds;
         holds = memcmp(sheet, pair_sheet, sizeof sheet) == 0 && holds;
-        holds = same(maps_write_rows(2, 1, 0, pair, more, three, 0, equal, 0, sheet, sizeof sheet), MAPS_VALUE, 3) && holds;
+        holds = same(maps_write_rows(2, 1, 0, pair, more, three, 0, equal, 0, 8, slot, few, sheet, sizeof sheet), MAPS_VALUE, 3) && holds;
     }
     check(holds, "rows that are not complete are ignored");
 }
@@ -307,7 +314,7 @@ static void rows(void) {
 static int written_and_planned(const struct maps_node three[3], const uint8_t *sheet, size_t length, const uint8_t *plan, size_t plan_length) {
     static const uint32_t reads[2] = {0, 1};
     uint8_t written_sheet[32], written_plan[32];
-    records = (struct maps_sheet){2, 4, 9, three, 3, reads, 2, NULL, 0};
+    records = (struct maps_sheet){2, 4, 9, three, 3, reads, 2, NULL, 0, 1, NULL, 0};
     int holds = answered(MAPS_ACCEPTED, length, sheet);
     holds = same(maps_write(&records, written_sheet, sizeof written_sheet), MAPS_ACCEPTED, length) && holds;
     holds = same(maps_plan(written_sheet, length, written_plan, sizeof written_plan), MAPS_ACCEPTED, plan_length) && holds;
@@ -317,7 +324,7 @@ static int written_and_planned(const struct maps_node three[3], const uint8_t *s
 /* One case: with this q of the box and d of the table the table is at this step and level. */
 static void read_at(const char *name, uint8_t q, uint8_t delay, uint8_t step, uint8_t level) {
     const struct maps_node three[3] = {{MAPS_INPUT, 0, 0, 0, 0, 0}, {MAPS_BOX, 0, 0, 2, 1, q}, {MAPS_LOGIC, 1, delay, 0, 2, 0}};
-    const uint8_t sheet[] = {2, 4, 9, 3, 0, 0, 0, 0, 0, 0, 0, 2, 0, 0, 2, q, 1, 0, 1, 1, delay, 0, 0, 1, 1};
+    const uint8_t sheet[] = {2, 4, 9, 3, 0, 0, 0, 0, 0, 0, 0, 2, 0, 0, 2, q, 1, 0, 1, 1, delay, 0, 0, 1, 1, 1, 0};
     const uint8_t plan[] = {step, 0, 0, 1, 0, 0, 0, 1, 0, step, level, 1, 1, 1};
     check(written_and_planned(three, sheet, sizeof sheet, plan, sizeof plan), name);
 }
@@ -334,23 +341,96 @@ static void memories(void) {
         {.kind = MAPS_BOX, .latency = 2, .operands_end = 1},
         {.kind = MAPS_LOGIC, .output = 1, .delay = 1, .operands_end = 2},
     };
-    static const uint8_t sheet[] = {2, 4, 9, 3, 0, 0, 0, 0, 0, 0, 0, 2, 0, 0, 2, 0, 1, 0, 1, 1, 1, 0, 0, 1, 1};
+    static const uint8_t sheet[] = {2, 4, 9, 3, 0, 0, 0, 0, 0, 0, 0, 2, 0, 0, 2, 0, 1, 0, 1, 1, 1, 0, 0, 1, 1, 1, 0};
     static const uint8_t plan[] = {2, 0, 0, 1, 0, 0, 0, 1, 0, 2, 1, 1, 1, 1};
     check(written_and_planned(left_out, sheet, sizeof sheet, plan, sizeof plan), "an initializer without the last member: q = 0");
     /* A table with d = 1 hides one with d = 2, which is (3, 2): its step is waited for, and its level is not. */
     static const struct maps_node hiding[4] = {
         {MAPS_INPUT, 0, 0, 0, 0, 0}, {MAPS_BOX, 0, 0, 2, 1, 3}, {MAPS_LOGIC, 0, 2, 0, 2, 0}, {MAPS_LOGIC, 1, 1, 0, 3, 0}};
     static const uint32_t chain[3] = {0, 1, 2};
-    static const uint8_t hiding_sheet[] = {2, 4, 9, 4, 0, 0, 0, 0, 0, 0, 0, 2, 0, 0, 2, 3, 1, 0, 1, 0, 2, 0, 0, 1, 1, 1, 1, 1, 0, 0, 1, 2};
+    static const uint8_t hiding_sheet[] = {2, 4, 9, 4, 0, 0, 0, 0, 0, 0, 0, 2, 0, 0, 2, 3, 1, 0, 1, 0, 2, 0, 0, 1, 1, 1, 1, 1, 0, 0, 1, 2, 1, 0};
     static const uint8_t hiding_plan[] = {3, 0, 0, 1, 0, 0, 0, 1, 0, 3, 2, 0, 0, 3, 1, 1, 1, 1};
     uint8_t written_plan[32];
-    records = (struct maps_sheet){2, 4, 9, hiding, 4, chain, 3, NULL, 0};
+    records = (struct maps_sheet){2, 4, 9, hiding, 4, chain, 3, NULL, 0, 1, NULL, 0};
     int holds = answered(MAPS_ACCEPTED, sizeof hiding_sheet, hiding_sheet);
     holds = same(maps_plan(hiding_sheet, sizeof hiding_sheet, written_plan, sizeof written_plan), MAPS_ACCEPTED, sizeof hiding_plan) && holds;
     check(holds && memcmp(written_plan, hiding_plan, sizeof hiding_plan) == 0, "a hidden reader");
 }
 
-/* The longest sheet: 256 nodes, boxes of six operands past node 0, 1,024 differences, as many bytes as a number may have. */
+/* Sets the records to hall with node 4 a box, P = 8 and, for it, the window from 2 to 4; node 5 reads it there. */
+static void hall_with_window(void) {
+    hall();
+    nodes[4].kind = MAPS_BOX;
+    windows[0] = (struct maps_window){4, 2, 4};
+    records.period = 8;
+    records.windows = windows;
+    records.window_count = 1;
+}
+
+/* One case: these records have this sheet, which has this plan. */
+static void window_planned(const char *name, const uint8_t *sheet, size_t length, const uint8_t *plan, size_t plan_length) {
+    uint8_t written_plan[64];
+    int holds = answered(MAPS_ACCEPTED, length, sheet);
+    holds = written(length, MAPS_ACCEPTED, length, sheet) && written(length - 1, MAPS_BUFFER_SHORT, length, NULL) && holds;
+    holds = same(maps_plan(sheet, length, written_plan, sizeof written_plan), MAPS_ACCEPTED, plan_length) && holds;
+    check(holds && memcmp(written_plan, plan, plan_length) == 0, name);
+}
+
+/* P and windows: written and planned, and refused at each wrong number. */
+static void slots(void) {
+    /* Box 4 on table 3, which is (0, 1), waits for step 2, where it is at level d, and so does table 5. */
+    static const uint8_t sheet[] = {
+        3, 2, 4, 6, 1,
+        0, 0, 0, 0, 0, 0, 0, 0, 0, 0, 0, 0, 0, 0, 0, 0, 0, 0,
+        1, 0, 1, 0, 0, 2, 0, 1, 2, 0, 1, 0, 0, 2, 3, 2, 1, 1, 1, 0, 0, 2, 4, 3,
+        0, 5, 2, 8, 1, 4, 2, 4,
+    };
+    static const uint8_t plan[] = {2, 0, 0, 1, 0, 0, 0, 1, 0, 0, 0, 1, 0, 0, 1, 1, 2, 0, 1, 2, 1, 1, 0, 2, 2, 1, 2, 3, 4};
+    hall_with_window();
+    window_planned("a window, written and planned", sheet, sizeof sheet, plan, sizeof plan);
+    wrong("3: P", &records.period, 0, 65, MAPS_VALUE, PERIOD);
+    wrong("3: the window of a table or of no node", &windows[0].box, 3, 6, MAPS_VALUE, WINDOW + BOX);
+    wrong("3: the window of an input", &windows[0].box, 0, 255, MAPS_VALUE, WINDOW + BOX);
+    wrong("3: from", &windows[0].from, 8, 64, MAPS_VALUE, WINDOW + FROM);
+    wrong("3: to, not above from", &windows[0].to, 0, 2, MAPS_VALUE, WINDOW + TO);
+    wrong("3: to, above P", &windows[0].to, 9, 64, MAPS_VALUE, WINDOW + TO);
+    windows[0] = (struct maps_window){3, 9, 0};
+    expect("3: the id before from and to", MAPS_VALUE, WINDOW + BOX, NULL);
+    windows[0] = (struct maps_window){4, 9, 0};
+    expect("3: from before to", MAPS_VALUE, WINDOW + FROM, NULL);
+    records.window_count = 7;
+    expect("3: seven windows of six nodes", MAPS_VALUE, WINDOWS, NULL);
+    records.period = 0;
+    expect("3: P = 0 before the count", MAPS_VALUE, PERIOD, NULL);
+    records.windows = NULL;
+    records.window_count = 0;
+    expect("3: P = 0 without windows", MAPS_VALUE, PERIOD, NULL);
+    records.period = 1;
+    check(answered(MAPS_ACCEPTED, sizeof HALL, NULL), "P = 1, no windows, null");
+    records.period = 64;
+    check(answered(MAPS_ACCEPTED, sizeof HALL, NULL), "P = 64, no windows, null");
+    differences[0].weight = 70000;
+    records.period = 0;
+    expect("3: w before P", MAPS_VALUE, DIFFERENCE + 2, NULL);
+    /* A second window: its box is not above the first one's. */
+    hall_with_window();
+    nodes[5].kind = MAPS_BOX;
+    windows[1] = (struct maps_window){5, 7, 8};
+    records.window_count = 2;
+    check(answered(MAPS_ACCEPTED, sizeof sheet + 3, NULL), "two windows");
+    wrong("3: the second window of the same box or of one below", &windows[1].box, 4, 2, MAPS_VALUE, WINDOW + 3 + BOX);
+    wrong("3: from of the second window", &windows[1].from, 8, 9, MAPS_VALUE, WINDOW + 3 + FROM);
+    wrong("3: to of the second window", &windows[1].to, 7, 9, MAPS_VALUE, WINDOW + 3 + TO);
+    /* Members that are left out are 0: the period is to be given. */
+    static const struct maps_node one[1] = {{.kind = MAPS_BOX}};
+    records = (struct maps_sheet){.leaves = 2, .top = 1, .nodes = one, .node_count = 1};
+    expect("3: an initializer without a period", MAPS_VALUE, 11, NULL);
+    static const uint8_t one_sheet[] = {2, 1, 0, 1, 0, 2, 0, 0, 0, 0, 0, 1, 0};
+    records.period = 1;
+    expect("the same with period = 1", MAPS_ACCEPTED, sizeof one_sheet, one_sheet);
+}
+
+/* The longest sheet: 256 nodes, boxes of six operands past node 0, 1,024 differences, 256 windows, as many bytes as a number may have. */
 static void longest(void) {
     hall();
     for (uint32_t v = 0; v < 256; v++) {
@@ -362,15 +442,18 @@ static void longest(void) {
     for (size_t i = 0; i < 1024; i++) {
         differences[i] = (struct maps_difference){255, 128, i % 2 == 0 ? 65535 : -65535};
     }
-    records = (struct maps_sheet){6, 64, 65535, nodes, 256, operands, 6 * 255, differences, 1024};
-    /* Node 0 has 7 bytes, nodes 1 to 128 have 13 and the others 19. */
-    size_t length = 9 + 7 + 128 * 13 + 127 * 19 + 1024 * 7;
+    for (uint32_t v = 0; v < 256; v++) {
+        windows[v] = (struct maps_window){v, 0, 64};
+    }
+    records = (struct maps_sheet){6, 64, 65535, nodes, 256, operands, 6 * 255, differences, 1024, 64, windows, 256};
+    /* Node 0 has 7 bytes, nodes 1 to 128 have 13 and the others 19; half of the windows have 3 bytes and half have 4. */
+    size_t length = 9 + 7 + 128 * 13 + 127 * 19 + 1024 * 7 + 3 + 128 * 3 + 128 * 4;
     expect("the longest sheet", MAPS_ACCEPTED, length, NULL);
     check(length <= MAPS_SHEET_MOST && written(length, MAPS_ACCEPTED, length, NULL), "the longest sheet, exact buffer");
     check(written(length - 1, MAPS_BUFFER_SHORT, length, NULL), "8: the longest sheet, one byte short");
     uint8_t sheet[MAPS_SHEET_MOST];
     struct maps_answer answer = maps_write(&records, sheet, sizeof sheet);
-    check(maps_accepted(answer) && same(maps_plan_length(sheet, (size_t)answer.place), MAPS_NEVER, 0), "the longest sheet reads");
+    check(maps_accepted(answer) && same(maps_plan_length(sheet, (size_t)answer.place), MAPS_LATE, 0), "the longest sheet reads");
     /* Without a w that is above 0 box v is at step 256 v, since q leaves no level for a reader: one byte at node 0, two up to node 63, three from
      * there. The last box is ready at H. */
     for (size_t i = 0; i < 1024; i += 2) {
@@ -380,6 +463,8 @@ static void longest(void) {
     answer = maps_write(&records, sheet, sizeof sheet);
     int holds = same(answer, MAPS_ACCEPTED, length);
     check(same(maps_plan_length(sheet, (size_t)answer.place), MAPS_ACCEPTED, plan_length) && holds, "the longest sheet, planned");
+    records.window_count = 257;
+    expect("3: 257 windows", MAPS_VALUE, 5 + 256 * 12 - 6 + 1024 * 3 + 1, NULL);
 }
 
 int main(void) {
@@ -390,6 +475,7 @@ int main(void) {
     order();
     rows();
     memories();
+    slots();
     longest();
     return counted();
 }

@@ -334,7 +334,9 @@ pub fn records(text: &[u8], caller: &Caller) -> Result<Records, Refusal> {
         return Err((Ground::NoEnd, lines.len() as u64 + 1));
     }
     model.mark_outputs()?;
-    Ok(Records { leaves: caller.leaves, top: caller.top, horizon: caller.horizon, nodes: model.nodes, differences: Vec::new() })
+    let Caller { leaves, top, horizon, .. } = *caller;
+    // No differences; P is 1, and there are no windows (U8).
+    Ok(Records { leaves, top, horizon, nodes: model.nodes, differences: Vec::new(), period: 1, windows: Vec::new() })
 }
 
 /// What importing into a buffer of `room` bytes gives, of those records or that refusal: number, place and, where the number is 0, the sheet.

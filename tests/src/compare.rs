@@ -1,10 +1,11 @@
 //! The planning call against the planner by brute force: number, place and every byte of the buffer.
 use crate::buffer::{after, lent};
 use crate::library::{plan, Answer};
+use crate::made::{numbers, spelled};
 use crate::plan::{refusal_line, Plan};
 use crate::planner::{self, outcome};
 use crate::random::Random;
-use crate::reader::{self, Refusal};
+use crate::reader::{self, Refusal, Sheet};
 
 /// How often each number from 0 to 12 is met.
 pub type Met = [u32; 13];
@@ -55,6 +56,20 @@ pub fn compare_all(seed: u64, rounds: u32, mut bytes: impl FnMut(&mut Random, u3
     }
     println!("calls by number: {met:?}");
     met
+}
+
+/// The plan of a sheet of any size, or its refusal, which writes nothing. Of the plan all is checked that can be told without brute force; its latency
+/// is within H.
+pub fn found(sheet: &Sheet) -> Result<Plan, Refusal> {
+    let (answer, buffer) = planned(&spelled(&numbers(sheet)), 5000);
+    if answer.number != 0 {
+        assert!(buffer == after(&[], 5000), "a refusal wrote: {sheet:?}");
+        return Err((answer.number, answer.place));
+    }
+    let plan = Plan::decoded(sheet.nodes.len(), &buffer[..answer.place as usize]);
+    plan.check(sheet);
+    assert!(plan.latency <= sheet.horizon, "{sheet:?}");
+    Ok(plan)
 }
 
 /// The listing of what the library gives, also held against the planner by brute force.

@@ -1,5 +1,5 @@
-//! Legal and least labellings by brute force: the conditions of document 01 as written, with document 02's ready label (U5), over all fitting cuts;
-//! whether there is a legal labelling under any horizon (U6); and the latency, which is that of outputs (U7).
+//! Legal and least labellings by brute force: the conditions of document 01 as written, with document 02's ready label (U5) and windows (U8), over all
+//! fitting cuts; whether there is a legal labelling under any horizon (U6); and the latency, which is that of outputs (U7).
 use crate::cones;
 use crate::reader::{Node, Sheet};
 
@@ -22,6 +22,12 @@ pub fn ready(node: &Node, label: Label) -> Label {
     } else {
         (label.0 + node.latency, node.clock_to_q)
     }
+}
+
+/// Whether node v may start in a step: the remainder of the step by P lies in its window, if it has one (document 02, U8).
+pub fn open(sheet: &Sheet, v: usize, step: u32) -> bool {
+    let remainder = step % sheet.period;
+    sheet.windows.iter().filter(|window| window.id as usize == v).all(|window| window.from <= remainder && remainder < window.to)
 }
 
 /// The fitting cuts of each node; none for inputs and boxes.
@@ -52,6 +58,7 @@ pub fn legal(sheet: &Sheet, cuts: &[Vec<Vec<u32>>], labels: &[Label], horizon: u
         node.delay <= l
             && l <= sheet.top
             && s + node.latency <= horizon
+            && open(sheet, v, s)
             && node.operands.iter().all(|&u| s >= ready(&sheet.nodes[u as usize], labels[u as usize]).0)
             && match node.kind {
                 0 => true,
@@ -62,7 +69,7 @@ pub fn legal(sheet: &Sheet, cuts: &[Vec<Vec<u32>>], labels: &[Label], horizon: u
     nodes && sheet.differences.iter().all(|d| labels[d.to as usize].0 as i64 >= labels[d.from as usize].0 as i64 + d.weight as i64)
 }
 
-/// The label that the bounds on v ask.
+/// The label that the bounds on v ask. Where its step is closed, every step after it is tried, and the first open one begins at level d.
 fn asked(sheet: &Sheet, cuts: &[Vec<Vec<u32>>], labels: &[Label], v: usize) -> Label {
     let node = &sheet.nodes[v];
     let mut least = labels[v];
@@ -77,6 +84,9 @@ fn asked(sheet: &Sheet, cuts: &[Vec<Vec<u32>>], labels: &[Label], v: usize) -> L
         1 => least.max(cuts[v].iter().map(|c| arrival(sheet, labels, v, c)).min().expect("a fitting cut")),
         _ => least.max(arrival(sheet, labels, v, &node.operands)),
     };
+    while !open(sheet, v, least.0) {
+        least = (least.0 + 1, 0);
+    }
     (least.0, least.1.max(node.delay))
 }
 
@@ -160,7 +170,7 @@ fn ring(raises: &[Raise]) -> Option<Vec<(usize, u32)>> {
     None
 }
 
-/// A legal labelling under some horizon, if there is one under any.
+/// A legal labelling under some horizon of a sheet without windows, if there is one under any.
 ///
 /// In a legal labelling each table is carried by some cut. Choose one cut for each table: if no ring of conditions rises, there is a legal labelling.
 /// If one does, then in every legal labelling some table of the ring is carried by a cut without the leaf by which the ring comes to it. So what is
@@ -189,29 +199,47 @@ pub fn legal_ever(sheet: &Sheet, cuts: &[Vec<Vec<u32>>]) -> Option<Vec<Label>> {
     }
 }
 
-/// Number and place of grounds 6, 12 and 7, in that order, or the least labels.
+/// Number and place of grounds 6, 12 and 7, in that order, or the least labels. With windows, whatever they close, 7 stands for 12 as well (U8).
 pub fn least(sheet: &Sheet) -> Result<Vec<Label>, (u64, u64)> {
     least_over(sheet, &fitting_cuts(sheet))
 }
 
 /// The same, given the fitting cuts.
 pub fn least_over(sheet: &Sheet, cuts: &[Vec<Vec<u32>>]) -> Result<Vec<Label>, (u64, u64)> {
-    let labels = least_ever(sheet, cuts)?;
-    if ends(sheet, &labels) > sheet.horizon { Err((7, 0)) } else { Ok(labels) }
+    if sheet.windows.is_empty() {
+        let labels = least_ever(sheet, cuts)?;
+        return if ends(sheet, &labels) > sheet.horizon { Err((7, 0)) } else { Ok(labels) };
+    }
+    all_cut(sheet, cuts)?;
+    raised(sheet, cuts, |labels| ends(sheet, labels) <= sheet.horizon).ok_or((7, 0))
 }
 
-/// Number and place of grounds 6 and 12, or the labels that are least under any horizon.
+/// Number and place of grounds 6 and 12, or the labels that are least under any horizon, of a sheet without windows.
 pub fn least_ever(sheet: &Sheet, cuts: &[Vec<Vec<u32>>]) -> Result<Vec<Label>, (u64, u64)> {
-    if let Some(v) = (0..sheet.nodes.len()).find(|&v| sheet.nodes[v].kind == 1 && cuts[v].is_empty()) {
-        return Err((6, v as u64));
-    }
+    assert!(sheet.windows.is_empty(), "only H bounds labels with windows");
+    all_cut(sheet, cuts)?;
     let some = legal_ever(sheet, cuts).ok_or((12, 0))?;
+    let labels = raised(sheet, cuts, |labels| labels.iter().zip(&some).all(|(label, some)| label <= some));
+    Ok(labels.unwrap_or_else(|| panic!("least labels past legal ones: {sheet:?}")))
+}
+
+/// Number and place of ground 6 where a table has no fitting cut.
+fn all_cut(sheet: &Sheet, cuts: &[Vec<Vec<u32>>]) -> Result<(), (u64, u64)> {
+    let without = (0..sheet.nodes.len()).find(|&v| sheet.nodes[v].kind == 1 && cuts[v].is_empty());
+    without.map_or(Ok(()), |v| Err((6, v as u64)))
+}
+
+/// The earliest labels, raised to what is asked of them until all is settled; none where they leave `within` first. On the way they never come after
+/// those of a legal labelling: where they leave a horizon, there is none within it.
+fn raised(sheet: &Sheet, cuts: &[Vec<Vec<u32>>], within: impl Fn(&[Label]) -> bool) -> Option<Vec<Label>> {
     let mut labels = vec![(0, 0); sheet.nodes.len()];
     loop {
         let next: Vec<Label> = (0..labels.len()).map(|v| asked(sheet, cuts, &labels, v)).collect();
-        assert!(next.iter().zip(&some).all(|(label, some)| label <= some), "least labels past legal ones: {sheet:?}");
+        if !within(&next) {
+            return None;
+        }
         if next == labels {
-            return Ok(labels);
+            return Some(labels);
         }
         labels = next;
     }

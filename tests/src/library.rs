@@ -34,6 +34,9 @@ extern "C" {
         operands_len: usize,
         differences: *const u32,
         differences_len: usize,
+        period: u32,
+        windows: *const u32,
+        windows_len: usize,
         sheet: *mut u8,
         sheet_len: usize,
     ) -> Answer;
@@ -62,14 +65,18 @@ impl Tables {
         Tables { graph: [value; 4096], differences: [value; 4096] }
     }
 
-    /// The tables as the crate `sheet` lays them down: sixteen numbers for a node (kind, mark, d, lat, q, operand count, operands), four for a
-    /// difference, 0 elsewhere.
+    /// The tables as the crate `sheet` lays them down: sixteen numbers for a node (kind, mark, d, lat, q, operand count, operands; from and to of its
+    /// window at 12 and 13), four for a difference, 0 elsewhere.
     pub fn of(sheet: &Sheet) -> Tables {
         let mut tables = Tables::filled_with(0);
         for (row, node) in tables.graph.chunks_mut(16).zip(&sheet.nodes) {
             let Node { kind, output, delay, latency, clock_to_q, ref operands } = *node;
             row[..6].copy_from_slice(&[kind, output as u32, delay, latency, clock_to_q, operands.len() as u32]);
             row[6..6 + operands.len()].copy_from_slice(operands);
+        }
+        for window in &sheet.windows {
+            let row = 16 * window.id as usize;
+            tables.graph[row + 12..row + 14].copy_from_slice(&[window.from, window.to]);
         }
         for (row, difference) in tables.differences.chunks_mut(4).zip(&sheet.differences) {
             let w = difference.weight;
@@ -117,7 +124,7 @@ pub fn plan(sheet: &[u8], buffer: &mut [u8]) -> Answer {
 /// Writes the sheet of records into a buffer.
 #[cfg(planner)]
 pub fn write(rows: &Rows, buffer: &mut [u8]) -> Answer {
-    let Rows { leaves, top, horizon, nodes, operands, differences } = rows;
+    let Rows { leaves, top, horizon, nodes, operands, differences, period, windows } = rows;
     unsafe {
         maps_write_rows(
             *leaves,
@@ -129,6 +136,9 @@ pub fn write(rows: &Rows, buffer: &mut [u8]) -> Answer {
             operands.len(),
             differences.as_ptr(),
             differences.len(),
+            *period,
+            windows.as_ptr(),
+            windows.len(),
             buffer.as_mut_ptr(),
             buffer.len(),
         )

@@ -1,5 +1,5 @@
-//! The ranges of document 01's section "The sheet", with the H, w and numbers of document 02 (U2) and its q (U5), each from its least to its greatest
-//! value, for the tests' own reader and for the test of each limit.
+//! The ranges of document 01's section "The sheet", with the H, w and numbers of document 02 (U2), its q (U5) and its windows (U8), each from its least
+//! to its greatest value, for the tests' own reader and for the test of each limit.
 
 /// From the least to the greatest value.
 pub type Range = (u32, u32);
@@ -11,6 +11,8 @@ pub const N: Range = (1, 256);
 pub const M: Range = (0, 1_024);
 pub const KIND: Range = (0, 2);
 pub const MARK: Range = (0, 1);
+/// P, the period of the windows.
+pub const P: Range = (1, 64);
 /// w lies in −W to W.
 pub const W: u32 = 65_535;
 /// The code of w: 2w or −2w − 1.
@@ -47,4 +49,14 @@ pub const fn clock_to_q(kind: u32, latency: u32, top: u32) -> Range {
         (2, 1..) => (0, top),
         _ => (0, 0),
     }
+}
+
+/// `from` of a window, P being `period` (U8).
+pub const fn window_from(period: u32) -> Range {
+    (0, period - 1)
+}
+
+/// `to` of a window that begins at `from`.
+pub const fn window_to(from: u32, period: u32) -> Range {
+    (from + 1, period)
 }

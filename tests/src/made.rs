@@ -1,7 +1,7 @@
 //! Made-up sheets: within the ranges, and damaged in one place.
-use crate::limits::{clock_to_q, fields, width, Range, CODE, H, K, M, N, NUMBER, SIZES, T, W};
+use crate::limits::{clock_to_q, fields, width, window_from, window_to, Range, CODE, H, K, M, N, NUMBER, P, SIZES, T, W};
 use crate::random::Random;
-use crate::reader::{Difference, Node, Sheet};
+use crate::reader::{Difference, Node, Sheet, Window};
 
 /// Appends the spelling of a number.
 pub fn put(bytes: &mut Vec<u8>, value: u32) {
@@ -24,7 +24,14 @@ pub fn numbers(sheet: &Sheet) -> Vec<u32> {
     for difference in &sheet.differences {
         all.extend([difference.from, difference.to, code(difference.weight)]);
     }
+    all.extend([sheet.period, sheet.windows.len() as u32]);
+    all.extend(sheet.windows.iter().flat_map(|window| [window.id, window.from, window.to]));
     all
+}
+
+/// Which number of a sheet its P is. The count of windows comes after it, then three numbers for each of them.
+pub fn period_index(sheet: &Sheet) -> usize {
+    numbers(sheet).len() - 3 * sheet.windows.len() - 2
 }
 
 /// The code of a w.
@@ -96,9 +103,57 @@ fn node(random: &mut Random, own: u32, top: u32) -> Node {
     Node { kind, output, delay, latency, clock_to_q, operands: (0..count).map(|_| random.within(0, own - 1)).collect() }
 }
 
-/// A sheet with all values in their ranges, of up to `most` nodes.
+/// A sheet with all values in their ranges, of up to `most` nodes; two of three have windows, where there are boxes.
 pub fn sheet(random: &mut Random, most: u32) -> Sheet {
-    sheet_with(random, most, any_horizon, any_weight)
+    let sheet = sheet_with(random, most, any_horizon, any_weight);
+    match random.once_in(3) {
+        true => Sheet { period: any(random, P), ..sheet },
+        false => windowed(random, sheet),
+    }
+}
+
+/// P: often small, often of a few steps, and of any size.
+fn any_period(random: &mut Random) -> u32 {
+    match random.within(0, 3) {
+        0 => random.within(1, 3),
+        1 | 2 => random.within(2, 9),
+        _ => any(random, P),
+    }
+}
+
+/// A window of a box: whole, of one step, up to the end of the period, its last step, from its first step on, or any.
+fn any_window(random: &mut Random, id: u32, period: u32) -> Window {
+    let start = any(random, window_from(period));
+    let (from, to) = match random.within(0, 6) {
+        0 => (0, period),
+        1 | 2 => (start, start + 1),
+        3 => (start, period),
+        4 => (period - 1, period),
+        5 => (0, start + 1),
+        _ => (start, any(random, window_to(start, period))),
+    };
+    Window { id, from, to }
+}
+
+/// The ids of a sheet's boxes.
+fn boxes(sheet: &Sheet) -> Vec<u32> {
+    (0..).zip(&sheet.nodes).filter(|(_, node)| node.kind == 2).map(|(id, _)| id).collect()
+}
+
+/// The sheet with windows for some of its boxes, or for all of them. Some of these sheets have windows that close nothing.
+pub fn windowed(random: &mut Random, sheet: Sheet) -> Sheet {
+    let (period, whole, seldom) = (any_period(random), random.once_in(8), random.within(1, 3));
+    let mut ids = boxes(&sheet);
+    ids.retain(|_| random.once_in(seldom));
+    let window = |id| if whole { Window { id, from: 0, to: period } } else { any_window(random, id, period) };
+    let windows = ids.into_iter().map(window).collect();
+    Sheet { period, windows, ..sheet }
+}
+
+/// The sheet with every input made a box, which can have a window.
+pub fn sensed(mut sheet: Sheet) -> Sheet {
+    sheet.nodes.iter_mut().filter(|node| node.kind == 0).for_each(|node| node.kind = 2);
+    sheet
 }
 
 /// The same, where `horizon` draws H and `weight` each w.
@@ -109,7 +164,7 @@ fn sheet_with(random: &mut Random, most: u32, horizon: impl Fn(&mut Random) -> u
     let m = random.within(0, 4 * most.min(M.1 / 4));
     let differences =
         (0..m).map(|_| Difference { from: random.within(0, n - 1), to: random.within(0, n - 1), weight: weight(random) }).collect();
-    Sheet { leaves: any(random, K), top, horizon: horizon(random), nodes, differences }
+    Sheet { leaves: any(random, K), top, horizon: horizon(random), nodes, differences, ..Sheet::default() }
 }
 
 /// A sheet of nearly `most` nodes, a tenth fewer at the least, with H and the size of w up to `far`.
@@ -130,11 +185,11 @@ fn odd_byte(random: &mut Random) -> u8 {
     }
 }
 
-/// The bytes of a sheet with one thing wrong: a number, its spelling, a byte, the length, or the q of a node.
+/// The bytes of a sheet with one thing wrong: a number, its spelling, a byte, the length, the q of a node, or a number of its windows.
 pub fn damaged(random: &mut Random, sheet: &Sheet) -> Vec<u8> {
     let mut all = numbers(sheet);
     let i = random.within(0, all.len() as u32 - 1) as usize;
-    match random.within(0, 6) {
+    match random.within(0, 7) {
         0 => {
             all[i] = of_any_size(random, (0, NUMBER));
             spelled(&all)
@@ -170,6 +225,12 @@ pub fn damaged(random: &mut Random, sheet: &Sheet) -> Vec<u8> {
             }
             bytes
         }
+        6 => {
+            let wrong = wrong_windows(sheet);
+            let (index, value) = wrong[random.within(0, wrong.len() as u32 - 1) as usize];
+            all[index] = value;
+            spelled(&all)
+        }
         _ => {
             let mut sheet = sheet.clone();
             let own = random.within(0, sheet.nodes.len() as u32 - 1) as usize;
@@ -190,6 +251,23 @@ pub fn wrong_q(random: &mut Random, node: &Node, top: u32) -> u32 {
     }
 }
 
+/// The numbers of a sheet's windows, each in every way in which it is wrong: which number of the sheet it is, and a value that it may not have.
+pub fn wrong_windows(sheet: &Sheet) -> Vec<(usize, u32)> {
+    let (n, period, first) = (sheet.nodes.len() as u32, sheet.period, period_index(sheet));
+    let mut all: Vec<(usize, u32)> = [0, P.1 + 1, P.1 + 64, 128, NUMBER].map(|value| (first, value)).to_vec();
+    all.extend([n + 1, n + 2, 2 * n + 1, n + 256, NUMBER].map(|count| (first + 1, count)));
+    let mut least = 0;
+    for (at, window) in (first + 2..).step_by(3).zip(&sheet.windows) {
+        // No node, no box, not above the entry before.
+        let ids = (0..n).filter(|&id| id < least || sheet.nodes[id as usize].kind != 2);
+        all.extend(ids.chain([n, n + 1, n + 256, NUMBER]).map(|id| (at, id)));
+        all.extend([period, period + 1, period + 64, NUMBER].map(|from| (at + 1, from)));
+        all.extend((0..=window.from).chain([period + 1, period + 64, NUMBER]).map(|to| (at + 2, to)));
+        least = window.id + 1;
+    }
+    all
+}
+
 /// A sheet at every limit: 256 nodes of six operands, 1,024 differences, values with as many bytes as their range allows.
 pub fn greatest(random: &mut Random) -> Sheet {
     greatest_up_to(random, H.1)
@@ -208,7 +286,18 @@ pub fn greatest_up_to(random: &mut Random, far: u32) -> Sheet {
         .collect();
     let weight = |i: u32| if i % 2 == 0 { far as i32 } else { -(far as i32) };
     let differences = (0..M.1).map(|i| Difference { from: 255 - i % 128, to: 128 + i % 128, weight: weight(i) }).collect();
-    Sheet { leaves: K.1, top: T.1, horizon: far, nodes, differences }
+    Sheet { leaves: K.1, top: T.1, horizon: far, nodes, differences, ..Sheet::default() }
+}
+
+/// The greatest sheet with P = 64 and a window for each of its boxes, which `window` draws.
+pub fn greatest_with(random: &mut Random, window: impl Fn(&mut Random) -> (u32, u32)) -> Sheet {
+    let whole = greatest(random);
+    let entry = |id| {
+        let (from, to) = window(random);
+        Window { id, from, to }
+    };
+    let windows = boxes(&whole).into_iter().map(entry).collect();
+    Sheet { period: P.1, windows, ..whole }
 }
 
 /// An input that is no output.
@@ -229,6 +318,11 @@ pub fn boxed(delay: u32, latency: u32, clock_to_q: u32, operands: &[u32]) -> Nod
 /// The differences of these triples: u, v and w.
 pub fn differences(triples: &[(u32, u32, i32)]) -> Vec<Difference> {
     triples.iter().map(|&(from, to, weight)| Difference { from, to, weight }).collect()
+}
+
+/// The windows of these triples: the box, from and to.
+pub fn windows(triples: &[(u32, u32, u32)]) -> Vec<Window> {
+    triples.iter().map(|&(id, from, to)| Window { id, from, to }).collect()
 }
 
 /// What a made-up small sheet is drawn from: the greatest number of nodes, T, H and latency, and whether tables read many inputs.
@@ -291,7 +385,7 @@ pub fn small(random: &mut Random, size: &Size) -> Sheet {
         differences.push(next);
     }
     let leaves = if size.wide || random.once_in(3) { 2 } else { random.within(2, 6) };
-    Sheet { leaves, top, horizon: random.within(0, size.horizon), nodes, differences }
+    Sheet { leaves, top, horizon: random.within(0, size.horizon), nodes, differences, ..Sheet::default() }
 }
 
 /// A legal small sheet of up to `most` nodes with many memories, which are boxes with a latency and mostly a q, and with tables and boxes that read
@@ -317,7 +411,7 @@ pub fn memories(random: &mut Random, most: u32, top: u32, horizon: u32) -> Sheet
         })
         .collect();
     let differences = (0..random.within(0, 6) / 2).map(|_| small_difference(random, n)).collect();
-    Sheet { leaves: random.within(2, 4), top, horizon: random.within(0, horizon), nodes, differences }
+    Sheet { leaves: random.within(2, 4), top, horizon: random.within(0, horizon), nodes, differences, ..Sheet::default() }
 }
 
 /// A legal small sheet whose differences lead down its ids one after another, so that labels settle late; T is 1, so that steps are many.
@@ -337,12 +431,18 @@ pub fn stairs(random: &mut Random) -> Sheet {
 }
 
 /// Numbers from 0 to n - 1 in any order.
-fn shuffled(random: &mut Random, n: u32) -> Vec<u32> {
+pub fn shuffled(random: &mut Random, n: u32) -> Vec<u32> {
     let mut all: Vec<u32> = (0..n).collect();
     for i in (1..all.len()).rev() {
         all.swap(i, random.within(0, i as u32) as usize);
     }
     all
+}
+
+/// The numbers below n in rising, in falling and in zigzag order.
+pub fn orders(n: u32) -> [(&'static str, Vec<u32>); 3] {
+    let zigzag = (0..n).map(|i| if i % 2 == 0 { i / 2 } else { n - 1 - i / 2 }).collect();
+    [("rising", (0..n).collect()), ("falling", (0..n).rev().collect()), ("zigzag", zigzag)]
 }
 
 /// A legal small sheet with a path of differences through some of its nodes that leads up to about H, or to some step below it; H is of any size, and
@@ -410,7 +510,80 @@ pub fn ring(random: &mut Random, most: u32, tables: bool) -> Sheet {
         .map(|(from, to)| Difference { from, to, weight: if from == gain { weight } else { -(random.within(0, 5) as i32 / 5) } })
         .collect();
     differences.push(Difference { from: random.within(0, n - 1), to: random.within(0, n - 1), weight: random.within(0, 20) as i32 });
-    Sheet { leaves: 3, top, horizon: random.within(10, 60), nodes, differences }
+    Sheet { leaves: 3, top, horizon: random.within(10, 60), nodes, differences, ..Sheet::default() }
+}
+
+/// A small sheet of up to `most` nodes, mostly boxes that have windows, with tables among them. A difference leads from a node to another, and mostly
+/// one leads back, with no room or with some.
+pub fn slots(random: &mut Random, most: u32, horizon: u32) -> Sheet {
+    let (n, top) = (random.within(2, most), random.within(1, 3));
+    let nodes = (0..n)
+        .map(|own| {
+            let count = if own == 0 || random.once_in(3) { 0 } else { random.within(1, 2) };
+            let operands: Vec<u32> = (0..count).map(|_| own - random.within(1, own.min(4))).collect();
+            let output = random.once_in(3);
+            match random.within(0, 9) {
+                0 => Node { output, ..input() },
+                1 | 2 if count > 0 => Node { delay: random.within(1, top), ..table(output, &operands) },
+                _ => {
+                    let latency = random.within(0, 4) / 2;
+                    Node { output, ..boxed(random.within(0, top), latency, any_q(random, latency, top), &operands) }
+                }
+            }
+        })
+        .collect();
+    let whole = Sheet { leaves: random.within(2, 3), top, horizon: random.within(0, horizon), nodes, ..Sheet::default() };
+    let mut sheet = windowed(random, whole);
+    for _ in 0..random.within(0, 4) {
+        let (from, to) = (random.within(0, n - 1), random.within(0, n - 1));
+        let there = random.within(0, sheet.period + 2) as i32 - 2;
+        sheet.differences.push(Difference { from, to, weight: if from == to { -there } else { there } });
+        if from != to && !random.once_in(4) {
+            let room = random.within(0, 2 * sheet.period) as i32;
+            sheet.differences.push(Difference { from: to, to: from, weight: -there - room });
+        }
+    }
+    sheet
+}
+
+/// A ring of boxes: differences lead from each to the next in an order and from the last back to the first, in all as many steps back as there, or
+/// a few more, so that without windows there are legal labels. With them each box waits for its window, and the ring drifts: it is gone round again
+/// and again, a few periods later each time, until all fit or one is past H. Boxes may have a latency and may read the one before them.
+pub fn drift(random: &mut Random, n: u32, horizon: u32) -> Sheet {
+    let (period, top) = (random.within(2, P.1), random.within(1, 4));
+    let read = random.once_in(3);
+    let nodes = (0..n)
+        .map(|own| {
+            let latency = if random.once_in(4) { random.within(1, 3) } else { 0 };
+            let operands = if read && own > 0 { vec![own - 1] } else { Vec::new() };
+            Node { output: random.once_in(4), ..boxed(random.within(0, top), latency, any_q(random, latency, top), &operands) }
+        })
+        .collect();
+    let mut order = shuffled(random, n);
+    if read || random.once_in(3) {
+        order.sort();
+    }
+    let apart: Vec<i32> = (1..n).map(|_| (random.within(0, 2 * period) / (1 + n / 4)) as i32 + 5 * i32::from(read)).collect();
+    let mut differences: Vec<Difference> =
+        apart.iter().zip(order.windows(2)).map(|(&weight, pair)| Difference { from: pair[0], to: pair[1], weight }).collect();
+    let room = if random.once_in(3) { 0 } else { random.within(0, period * n.min(8) / 2) as i32 };
+    differences.push(Difference { from: order[n as usize - 1], to: order[0], weight: -apart.iter().sum::<i32>() - room });
+    let windows = (0..n).map(|id| any_window(random, id, period)).collect();
+    Sheet { leaves: 2, top, horizon, nodes, differences, period, windows }
+}
+
+/// A ring of boxes, in an order, that has no legal labels for its windows alone. The second box is a step after the first, none of the others is before
+/// the one before it, and the last is no more than a step after the first. The first two have a window of one step each, in the same step of the
+/// period: the second waits for the next one, and so does then the first.
+pub fn missed(order: &[u32], period: u32, horizon: u32) -> Sheet {
+    let (first, last) = (order[0], order[order.len() - 1]);
+    let mut differences: Vec<Difference> = order.windows(2).map(|pair| Difference { from: pair[0], to: pair[1], weight: 0 }).collect();
+    differences[0].weight = 1;
+    differences.push(Difference { from: last, to: first, weight: -1 });
+    let mut windows = windows(&[(first, 0, 1), (order[1], 0, 1)]);
+    windows.sort_by_key(|window| window.id);
+    let nodes = vec![boxed(0, 0, 0, &[]); order.len()];
+    Sheet { horizon, nodes, differences, period, windows, ..Sheet::default() }
 }
 
 /// The greatest sheet with its boxes and differences changed. With a latency of 0 there is no q.
@@ -434,7 +607,7 @@ pub fn chain(slow: u32, far: u32) -> Sheet {
         })
         .collect();
     let differences = (0..1024).map(|i| Difference { from: i % 256, to: i / 4, weight: -(far as i32) }).collect();
-    Sheet { leaves: 6, top: 64, horizon: far, nodes, differences }
+    Sheet { leaves: 6, top: 64, horizon: far, nodes, differences, ..Sheet::default() }
 }
 
 /// A sheet of 256 nodes, mostly tables, whose operands reach near or far down and whose differences are many, few or none, by the round. H and the
@@ -469,5 +642,5 @@ pub fn large(random: &mut Random, round: usize) -> Sheet {
         })
         .collect();
     let leaves = if random.once_in(8) { random.within(4, 5) } else { 6 };
-    Sheet { leaves, top, horizon: far, nodes, differences }
+    Sheet { leaves, top, horizon: far, nodes, differences, ..Sheet::default() }
 }

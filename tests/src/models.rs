@@ -78,7 +78,7 @@ pub fn sheet(random: &mut Random, n: u32, caller: &Caller) -> Sheet {
         };
         Node { output: random.once_in(outputs), ..node }
     });
-    Sheet { leaves: caller.leaves, top: caller.top, horizon: caller.horizon, nodes: nodes.collect(), differences: Vec::new() }
+    Sheet { leaves: caller.leaves, top: caller.top, horizon: caller.horizon, nodes: nodes.collect(), ..Sheet::default() }
 }
 
 /// A byte of a word: any but those that part words and lines and begin comments.

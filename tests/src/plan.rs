@@ -1,5 +1,5 @@
 //! A plan taken apart, what documents 01 and 02 say of it, and its listing.
-use crate::labels::{latency, plus, ready, Label};
+use crate::labels::{latency, open, plus, ready, Label};
 use crate::reader::Sheet;
 
 /// A plan taken apart.
@@ -66,6 +66,7 @@ impl Plan {
             let carried = |leaves: &[u32]| leaves.iter().all(|&u| plus(ready_at(u), node.delay, sheet.top) <= label);
             assert!(node.delay <= label.1 && label.1 <= sheet.top, "level of {v}");
             assert!(label.0 + node.latency <= sheet.horizon, "horizon at {v}");
+            assert!(open(sheet, v, label.0), "window of {v}");
             assert!(node.operands.iter().all(|&u| ready_at(u).0 <= label.0), "operands' steps of {v}");
             used[v] |= node.output || node.kind == 2;
             if node.kind == 2 {

@@ -1,5 +1,5 @@
 //! Reading a sheet as documents 01 and 02 say, or the number and place of the first of grounds 1 to 5.
-use crate::limits::{clock_to_q, fields, Range, CODE, H, K, KIND, M, MARK, N, T};
+use crate::limits::{clock_to_q, fields, window_from, window_to, Range, CODE, H, K, KIND, M, MARK, N, P, T};
 
 #[derive(Clone, Debug, PartialEq)]
 pub struct Node {
@@ -19,6 +19,14 @@ pub struct Difference {
     pub weight: i32,
 }
 
+/// An entry of the windows (U8): this box may start in step s only if the remainder of s by P is at least `from` and below `to`.
+#[derive(Clone, Debug, PartialEq)]
+pub struct Window {
+    pub id: u32,
+    pub from: u32,
+    pub to: u32,
+}
+
 #[derive(Clone, Debug, PartialEq)]
 pub struct Sheet {
     pub leaves: u32,
@@ -26,6 +34,16 @@ pub struct Sheet {
     pub horizon: u32,
     pub nodes: Vec<Node>,
     pub differences: Vec<Difference>,
+    /// P.
+    pub period: u32,
+    pub windows: Vec<Window>,
+}
+
+impl Default for Sheet {
+    /// K, T and H at their least, no nodes, no differences, P = 1 and no windows.
+    fn default() -> Sheet {
+        Sheet { leaves: K.0, top: T.0, horizon: H.0, nodes: Vec::new(), differences: Vec::new(), period: P.0, windows: Vec::new() }
+    }
 }
 
 pub type Refusal = (u64, u64);
@@ -107,8 +125,21 @@ pub fn read(bytes: &[u8]) -> Result<Sheet, Refusal> {
         let weight = if code % 2 == 0 { code / 2 } else { -(code + 1) / 2 };
         differences.push(Difference { from, to, weight });
     }
+    let period = source.ranged(P)?;
+    let count = source.ranged((0, n))?;
+    let mut windows: Vec<Window> = Vec::new();
+    for _ in 0..count {
+        let (id, place) = source.number()?;
+        let is_box = nodes.get(id as usize).is_some_and(|node: &Node| node.kind == 2);
+        if !is_box || windows.last().is_some_and(|before| id <= before.id) {
+            return Err((3, place));
+        }
+        let from = source.ranged(window_from(period))?;
+        let to = source.ranged(window_to(from, period))?;
+        windows.push(Window { id, from, to });
+    }
     if source.at < bytes.len() {
         return Err((5, source.at as u64));
     }
-    Ok(Sheet { leaves, top, horizon, nodes, differences })
+    Ok(Sheet { leaves, top, horizon, nodes, differences, period, windows })
 }

@@ -1,7 +1,7 @@
 //! Writing a sheet as documents 01 and 02 say, from records whose fields may have any value, or the number and place of the refusal.
-use crate::limits::{clock_to_q, fields, Range, H, K, KIND, M, MARK, N, T, W};
+use crate::limits::{clock_to_q, fields, window_from, window_to, Range, H, K, KIND, M, MARK, N, P, T, W};
 use crate::made::spelled;
-use crate::reader::{self, Difference, Refusal, Sheet};
+use crate::reader::{self, Difference, Refusal, Sheet, Window};
 
 /// A node as it is given.
 #[derive(Clone, Debug, PartialEq)]
@@ -21,7 +21,7 @@ impl From<&reader::Node> for Node {
     }
 }
 
-/// Header, nodes and differences as they are given.
+/// Header, nodes, differences, P and windows as they are given.
 #[derive(Clone, Debug, PartialEq)]
 pub struct Records {
     pub leaves: u32,
@@ -29,12 +29,22 @@ pub struct Records {
     pub horizon: u32,
     pub nodes: Vec<Node>,
     pub differences: Vec<Difference>,
+    pub period: u32,
+    pub windows: Vec<Window>,
+}
+
+impl Default for Records {
+    /// Those of the sheet of nothing.
+    fn default() -> Records {
+        Records::from(&Sheet::default())
+    }
 }
 
 impl From<&Sheet> for Records {
     fn from(sheet: &Sheet) -> Records {
         let nodes = sheet.nodes.iter().map(Node::from).collect();
-        Records { leaves: sheet.leaves, top: sheet.top, horizon: sheet.horizon, nodes, differences: sheet.differences.clone() }
+        let Sheet { leaves, top, horizon, period, .. } = *sheet;
+        Records { leaves, top, horizon, nodes, differences: sheet.differences.clone(), period, windows: sheet.windows.clone() }
     }
 }
 
@@ -64,6 +74,15 @@ impl Numbers {
     fn operand(&mut self, id: u32, own: usize) -> Result<(), Refusal> {
         if id as usize >= own {
             return Err(self.refusal(4));
+        }
+        self.0.push(id);
+        Ok(())
+    }
+
+    /// The id of a box that is not below `least`.
+    fn box_id(&mut self, id: u32, least: u32, nodes: &[Node]) -> Result<(), Refusal> {
+        if id < least || nodes.get(id as usize).map(|node| node.kind) != Some(2) {
+            return Err(self.refusal(3));
         }
         self.0.push(id);
         Ok(())
@@ -105,6 +124,15 @@ pub fn numbers(records: &Records) -> Result<Vec<u32>, Refusal> {
         numbers.ranged(difference.to, ids)?;
         numbers.weight(difference.weight)?;
     }
+    numbers.ranged(records.period, P)?;
+    numbers.count(records.windows.len(), (0, records.nodes.len() as u32))?;
+    let mut least = 0;
+    for &Window { id, from, to } in &records.windows {
+        numbers.box_id(id, least, &records.nodes)?;
+        numbers.ranged(from, window_from(records.period))?;
+        numbers.ranged(to, window_to(from, records.period))?;
+        least = id + 1;
+    }
     Ok(numbers.0)
 }
 
@@ -117,8 +145,8 @@ pub fn outcome(records: &Records, room: usize) -> (u64, u64, Option<Vec<u8>>) {
     }
 }
 
-/// Records as the library's call takes them: six numbers for a node (kind, mark, d, lat, the end of its operands, q) and three for a difference (u,
-/// v, the bits of w).
+/// Records as the library's call takes them: six numbers for a node (kind, mark, d, lat, the end of its operands, q), three for a difference (u, v,
+/// the bits of w) and three for a window (the box, from, to).
 #[derive(Clone, Debug, PartialEq)]
 pub struct Rows {
     pub leaves: u32,
@@ -127,6 +155,8 @@ pub struct Rows {
     pub nodes: Vec<u32>,
     pub operands: Vec<u32>,
     pub differences: Vec<u32>,
+    pub period: u32,
+    pub windows: Vec<u32>,
 }
 
 impl From<&Records> for Rows {
@@ -137,7 +167,9 @@ impl From<&Records> for Rows {
             nodes.extend([node.kind, node.output, node.delay, node.latency, operands.len() as u32, node.clock_to_q]);
         }
         let differences = records.differences.iter().flat_map(|d| [d.from, d.to, d.weight as u32]).collect();
-        Rows { leaves: records.leaves, top: records.top, horizon: records.horizon, nodes, operands, differences }
+        let windows = records.windows.iter().flat_map(|window| [window.id, window.from, window.to]).collect();
+        let Records { leaves, top, horizon, period, .. } = *records;
+        Rows { leaves, top, horizon, nodes, operands, differences, period, windows }
     }
 }
 
@@ -154,6 +186,8 @@ impl Rows {
         });
         let nodes = nodes.collect();
         let differences = self.differences.chunks_exact(3).map(|row| Difference { from: row[0], to: row[1], weight: row[2] as i32 }).collect();
-        Records { leaves: self.leaves, top: self.top, horizon: self.horizon, nodes, differences }
+        let windows = self.windows.chunks_exact(3).map(|row| Window { id: row[0], from: row[1], to: row[2] }).collect();
+        let Rows { leaves, top, horizon, period, .. } = *self;
+        Records { leaves, top, horizon, nodes, differences, period, windows }
     }
 }

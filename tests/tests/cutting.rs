@@ -32,7 +32,7 @@ fn graph(random: &mut Random, n: u32) -> Sheet {
             Node { kind, output: false, delay: u32::from(kind == 1), latency: 0, clock_to_q: 0, operands }
         })
         .collect();
-    Sheet { leaves: 2, top: 1, horizon: 0, nodes, differences: Vec::new() }
+    Sheet { leaves: 2, top: 1, horizon: 0, nodes, ..Sheet::default() }
 }
 
 #[test]

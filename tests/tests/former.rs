@@ -1,12 +1,13 @@
-//! Sheets of document 01's form, whose nodes have no q: read here in that form and planned by brute force with document 01's ready label and the
-//! latency of outputs (document 02, U7), against the planning call on the same sheet rewritten with q = 0 in every node (U5).
+//! Sheets of former forms, which end after their differences: document 01's, whose nodes have no q, and the one after it, whose nodes have one. Each
+//! is read here in its form and planned by brute force without windows and with the latency of outputs (document 02, U7), against the planning call
+//! on the same sheet rewritten: q = 0 in every node that has none (U5), and at the end P = 1 and no windows (U8).
 #![cfg(planner)]
 use maps_tests::buffer::{after, lent};
 use maps_tests::compare::Met;
 use maps_tests::cones::{chosen, cuts};
 use maps_tests::labels::{legal_ever, plus, Label};
 use maps_tests::library::{plan, Answer};
-use maps_tests::limits::{fields, Range, CODE, H, K, KIND, M, MARK, N, T};
+use maps_tests::limits::{clock_to_q, fields, Range, CODE, H, K, KIND, M, MARK, N, T};
 use maps_tests::made::{code, input, long, memories, ring, small, spelled, stairs, table, weight, Size};
 use maps_tests::plan::Plan;
 use maps_tests::planner::{self, outcome};
@@ -15,11 +16,22 @@ use maps_tests::reader::{self, Difference, Node, Refusal, Sheet};
 
 const SEED: u64 = 20260111;
 
-/// The numbers of a sheet in document 01's form.
-fn former(sheet: &Sheet) -> Vec<u32> {
+/// A former form of the sheet.
+#[derive(Clone, Copy, PartialEq)]
+enum Form {
+    /// Document 01's: nodes have no q.
+    WithoutQ,
+    /// Nodes have a q after their lat.
+    WithQ,
+}
+
+/// The numbers of a sheet in a former form.
+fn former(form: Form, sheet: &Sheet) -> Vec<u32> {
     let mut all = vec![sheet.leaves, sheet.top, sheet.horizon, sheet.nodes.len() as u32, sheet.differences.len() as u32];
     for node in &sheet.nodes {
-        all.extend([node.kind, u32::from(node.output), node.delay, node.latency, node.operands.len() as u32]);
+        all.extend([node.kind, u32::from(node.output), node.delay, node.latency]);
+        all.extend((form == Form::WithQ).then_some(node.clock_to_q));
+        all.push(node.operands.len() as u32);
         all.extend(&node.operands);
     }
     all.extend(sheet.differences.iter().flat_map(|d| [d.from, d.to, code(d.weight)]));
@@ -40,9 +52,9 @@ fn numbers_of(bytes: &[u8]) -> Vec<u32> {
     all
 }
 
-/// Reads a sheet of document 01's form that has each number in its range, and gives it with its numbers rewritten: 0 after each lat. The q of its
-/// nodes is of no account here.
-fn read(bytes: &[u8]) -> (Sheet, Vec<u32>) {
+/// Reads a sheet of a former form that has each number in its range, and gives it with its numbers rewritten: 0 after each lat where there is no q,
+/// and 1 and 0 at the end.
+fn read(form: Form, bytes: &[u8]) -> (Sheet, Vec<u32>) {
     let (mut rest, mut rewritten) = (numbers_of(bytes).into_iter(), Vec::new());
     let mut next = |rewritten: &mut Vec<u32>, (low, high): Range| {
         let value = rest.next().expect("a number");
@@ -56,10 +68,16 @@ fn read(bytes: &[u8]) -> (Sheet, Vec<u32>) {
         let (kind, output) = (next(&mut rewritten, KIND), next(&mut rewritten, MARK) == 1);
         let fields = fields(kind, top);
         let (delay, latency) = (next(&mut rewritten, fields.delay), next(&mut rewritten, fields.latency));
-        rewritten.push(0);
+        let clock_to_q = match form {
+            Form::WithQ => next(&mut rewritten, clock_to_q(kind, latency, top)),
+            Form::WithoutQ => {
+                rewritten.push(0);
+                0
+            }
+        };
         let count = next(&mut rewritten, fields.operands);
         let operands = (0..count).map(|_| next(&mut rewritten, (0, own - 1))).collect();
-        nodes.push(Node { kind, output, delay, latency, operands, ..input() });
+        nodes.push(Node { kind, output, delay, latency, clock_to_q, operands });
     }
     let mut differences = Vec::new();
     for _ in 0..m {
@@ -67,14 +85,16 @@ fn read(bytes: &[u8]) -> (Sheet, Vec<u32>) {
         differences.push(Difference { from, to, weight: weight(code) });
     }
     assert_eq!(rest.next(), None, "numbers after the last of {bytes:?}");
-    (Sheet { leaves, top, horizon, nodes, differences }, rewritten)
+    rewritten.extend([1, 0]);
+    (Sheet { leaves, top, horizon, nodes, differences, ..Sheet::default() }, rewritten)
 }
 
-/// "The ready label of u is its own label if lat is 0, otherwise (s + lat, 0)."
+/// "The ready label of u is its own label if lat is 0, otherwise (s + lat, 0)." With a q "the ready label of such a box becomes (s + lat, q)"; a node
+/// that is read without one has 0.
 fn ready(node: &Node, (s, l): Label) -> Label {
     match node.latency {
         0 => (s, l),
-        latency => (s + latency, 0),
+        latency => (s + latency, node.clock_to_q),
     }
 }
 
@@ -99,7 +119,7 @@ fn asked(sheet: &Sheet, fitting: &[Vec<u32>], labels: &[Label], v: usize) -> Lab
     (s, l.max(node.delay))
 }
 
-/// The plan of a sheet of document 01's form, or the refusal by 6, 12 or 7.
+/// The plan of a sheet of a former form, or the refusal by 6, 12 or 7.
 fn planned(sheet: &Sheet) -> Result<Vec<u8>, Refusal> {
     let logic = |v: usize| sheet.nodes[v].kind == 1;
     let ids = 0..sheet.nodes.len();
@@ -108,7 +128,6 @@ fn planned(sheet: &Sheet) -> Result<Vec<u8>, Refusal> {
     if let Some(v) = ids.clone().find(|&v| logic(v) && fitting[v].is_empty()) {
         return Err((6, v as u64));
     }
-    // With q = 0 in every node the ready label is document 01's.
     if legal_ever(sheet, &fitting).is_none() {
         return Err((12, 0));
     }
@@ -128,11 +147,14 @@ fn planned(sheet: &Sheet) -> Result<Vec<u8>, Refusal> {
     Ok(planner::plan(sheet, &labels, latency, &chosen))
 }
 
-/// Holds the planning call on the rewritten sheet to the plan in document 01's form, in several rooms; gives what came of it.
-fn keeps(old: &[u8], met: &mut Met) -> Result<Vec<u8>, Refusal> {
-    let (sheet, numbers) = read(old);
+/// Holds the planning call on the rewritten sheet to the plan in a former form, in several rooms; gives what came of it.
+fn keeps(form: Form, old: &[u8], met: &mut Met) -> Result<Vec<u8>, Refusal> {
+    let (sheet, numbers) = read(form, old);
     let bytes = spelled(&numbers);
-    assert_eq!(bytes.len(), old.len() + sheet.nodes.len());
+    match form {
+        Form::WithQ => assert_eq!(bytes, [old, &[1, 0]].concat()),
+        Form::WithoutQ => assert_eq!(bytes.len(), old.len() + sheet.nodes.len() + 2),
+    }
     assert_eq!(reader::read(&bytes), Ok(sheet.clone()), "{old:?}");
     let former = planned(&sheet);
     let length = former.as_ref().map_or(0, Vec::len);
@@ -146,10 +168,10 @@ fn keeps(old: &[u8], met: &mut Met) -> Result<Vec<u8>, Refusal> {
     former
 }
 
-#[test]
-fn made_up_sheets_keep_their_plans() {
-    println!("seed {SEED}");
-    let mut random = Random::new(SEED);
+/// Made-up sheets in a former form keep their plans.
+fn made_up_sheets_keep_their_plans(form: Form, seed: u64) {
+    println!("seed {seed}");
+    let mut random = Random::new(seed);
     let mut met = Met::default();
     // Plans with a node that reads a box with a latency, where q would enter; and plans with a node in a step after their latency.
     let (mut read_late, mut below) = (0, 0);
@@ -163,7 +185,7 @@ fn made_up_sheets_keep_their_plans() {
             5 => small(&mut random, &Size { nodes: 11, top: 2, horizon: 20, latency: 2, wide: false }),
             _ => memories(&mut random, 11, 6, 24),
         };
-        let found = keeps(&spelled(&former(&sheet)), &mut met);
+        let found = keeps(form, &spelled(&former(form, &sheet)), &mut met);
         let late = |u: &u32| sheet.nodes[*u as usize].latency > 0;
         read_late += u32::from(found.is_ok() && sheet.nodes.iter().any(|node| node.operands.iter().any(late)));
         let plan = found.map(|bytes| Plan::decoded(sheet.nodes.len(), &bytes));
@@ -174,8 +196,18 @@ fn made_up_sheets_keep_their_plans() {
 }
 
 #[test]
+fn made_up_sheets_without_q() {
+    made_up_sheets_keep_their_plans(Form::WithoutQ, SEED);
+}
+
+#[test]
+fn made_up_sheets_with_q() {
+    made_up_sheets_keep_their_plans(Form::WithQ, SEED + 1);
+}
+
+#[test]
 fn the_sheets_of_document_01_keep_their_plans() {
-    let kept = |old: &[u8]| keeps(old, &mut Met::default());
+    let kept = |old: &[u8]| keeps(Form::WithoutQ, old, &mut Met::default());
     let bytes = |text: &str| -> Vec<u8> { text.split_whitespace().map(|byte| u8::from_str_radix(byte, 16).expect("a byte")).collect() };
     // The hall sheet and its plan, as they stand there.
     let zeros = "00 00 00 00 00";
@@ -202,7 +234,7 @@ fn the_sheets_of_document_01_keep_their_plans() {
     let late = bytes("01 00 00 01 00 00 00 01 00 00 00 01 00 00 01 01 02 00 01 01 01 00 00 01 01 01 02 02 03");
     assert_eq!(kept(&[&[2, 1], &bare[2..]].concat()), Ok(late));
     // Three operands and one leaf; no fitting cut; the box with d = 2 and lat = 3 within H = 3 and H = 2, and with lat = 0 below a table.
-    let sheet = |leaves, top, horizon, nodes: Vec<Node>| spelled(&former(&Sheet { leaves, top, horizon, nodes, differences: Vec::new() }));
+    let sheet = |leaves, top, horizon, nodes: Vec<Node>| spelled(&former(Form::WithoutQ, &Sheet { leaves, top, horizon, nodes, ..Sheet::default() }));
     let one = || table(false, &[0]);
     let reconvergent = kept(&sheet(2, 1, 0, vec![input(), one(), one(), one(), table(true, &[1, 2, 3])])).expect("a plan");
     assert!(reconvergent.ends_with(&[0, 1, 1, 1, 0]), "{reconvergent:?}");
@@ -211,4 +243,21 @@ fn the_sheets_of_document_01_keep_their_plans() {
     assert_eq!(kept(&sheet(2, 2, 3, vec![input(), slow(3)])), Ok(vec![3, 0, 0, 1, 0, 0, 2, 1, 0]));
     assert_eq!(kept(&sheet(2, 2, 2, vec![input(), slow(3)])), Err((7, 0)));
     assert_eq!(kept(&sheet(2, 2, 1, vec![input(), slow(0), table(true, &[1])])), Ok(vec![1, 0, 0, 1, 0, 0, 2, 1, 0, 1, 1, 1, 1, 1]));
+}
+
+#[test]
+fn memories_keep_their_plans() {
+    // The memory with lat = 2 and q is ready at (2, q): a table with d = 1 on it is at level q + 1, or in the next step.
+    for (q, step, level) in [(0, 2, 1), (3, 2, 4), (4, 3, 1)] {
+        let sheet = [2, 4, 9, 3, 0, 0, 0, 0, 0, 0, 0, 2, 0, 0, 2, q, 1, 0, 1, 1, 1, 0, 0, 1, 1];
+        assert_eq!(keeps(Form::WithQ, &sheet, &mut Met::default()), Ok(vec![step, 0, 0, 1, 0, 0, 0, 1, 0, step, level, 1, 1, 1]));
+    }
+    // The stored sheets end with what was added to their form.
+    for (name, number) in [("zigzag", 12), ("costly-cuts", 12), ("rises", 0)] {
+        let path = format!("{}/sheets/{name}.sheet", env!("CARGO_MANIFEST_DIR"));
+        let bytes = std::fs::read(path).expect("the sheet");
+        let (old, added) = bytes.split_at(bytes.len() - 2);
+        assert_eq!((spelled(&read(Form::WithQ, old).1), added), (bytes.clone(), &[1, 0][..]), "{name}");
+        assert_eq!(plan(&bytes, &mut vec![0; 5000]).number, number, "{name}");
+    }
 }

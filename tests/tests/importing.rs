@@ -96,7 +96,7 @@ fn accepted_for(caller: &Caller, text: &[u8], sheet: &[u8]) {
 /// The bytes of the sheet of these nodes.
 fn sheet_of(caller: &Caller, nodes: Vec<Node>) -> Vec<u8> {
     let Caller { leaves, top, horizon, .. } = *caller;
-    spelled(&numbers(&Sheet { leaves, top, horizon, nodes, differences: Vec::new() }))
+    spelled(&numbers(&Sheet { leaves, top, horizon, nodes, ..Sheet::default() }))
 }
 
 /// A table of texts that are accepted, each with its nodes.
@@ -116,16 +116,16 @@ fn a_model_and_its_bytes() {
     let text = b"# a lift\n.model hall\n.inputs a b\n.outputs q x\n.names a b x\n11 1\n.latch x q 0\n.names q one o\n-- 1\n.end\n";
     refused_for(&CALLER, text, 10, 8);
     let text = b"# a lift\n.model hall\n.inputs a b\n.outputs q x\n.names one\n1\n.names a b x\n11 1\n.latch x q 0\n.names q one o\n-- 1\n.end\n";
-    // K, T, H, n, m; then kind, mark, d, lat, q, count and operands of a, b, one, x, q, o.
+    // K, T, H, n, m; then kind, mark, d, lat, q, count and operands of a, b, one, x, q, o; then P = 1 and no windows.
     let header = [3, 2, 4, 6, 0];
     let inputs = [0; 18];
     let others = [1, 1, 1, 0, 0, 2, 0, 1, 2, 1, 0, 1, 0, 1, 3, 1, 0, 1, 0, 0, 2, 4, 2];
-    accepted_for(&CALLER, text, &[&header[..], &inputs, &others].concat());
+    accepted_for(&CALLER, text, &[&header[..], &inputs, &others, &[1, 0]].concat());
     // H of three bytes, d = 64, n of two bytes.
     let caller = Caller { leaves: 6, top: 64, horizon: 65_535, table: 64_000, level: 1_000 };
     let names: String = (0..255).map(|i| format!(" n{i}")).collect();
     let text = format!(".model m\n.inputs{names}\n.names n0 n254 z\n.end");
-    let expected = [&[6, 64, 0xff, 0xff, 0x03, 0x80, 0x02, 0][..], &[0; 6 * 255], &[1, 0, 64, 0, 0, 2, 0, 0xfe, 0x01]].concat();
+    let expected = [&[6, 64, 0xff, 0xff, 0x03, 0x80, 0x02, 0][..], &[0; 6 * 255], &[1, 0, 64, 0, 0, 2, 0, 0xfe, 0x01, 1, 0]].concat();
     accepted_for(&caller, text.as_bytes(), &expected);
 }
 
@@ -852,7 +852,7 @@ fn the_room() {
     let caller = Caller { leaves: 6, top: 64, horizon: H.1, table: 64, level: 1 };
     let table = |own: u32| Node { kind: 1, output: true, delay: 64, operands: vec![own - 1; 6], ..input() };
     let all = (0..N.1).map(|own| if own == 0 { input() } else { table(own) }).collect();
-    let sheet = Sheet { leaves: 6, top: 64, horizon: H.1, nodes: all, differences: Vec::new() };
+    let sheet = Sheet { leaves: 6, top: 64, horizon: H.1, nodes: all, ..Sheet::default() };
     let expected = spelled(&numbers(&sheet));
     assert!(expected.len() < AMPLE && expected.len() as u64 <= defined("MAPS_SHEET_MOST"));
     accepted_for(&caller, &abc(&mut random, &sheet), &expected);

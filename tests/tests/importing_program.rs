@@ -57,13 +57,13 @@ fn compare(text: &[u8], caller: &Caller) -> u64 {
 
 #[test]
 fn a_model_and_its_bytes() {
-    // K, T, H, n, m; then kind, mark, d, lat, q, count and operands of a, b, x, q.
-    let sheet = [&[3, 2, 4, 4, 0][..], &[0; 12], &[1, 0, 1, 0, 0, 2, 0, 1, 2, 1, 0, 1, 0, 1, 2]].concat();
+    // K, T, H, n, m; then kind, mark, d, lat, q, count and operands of a, b, x, q; then P = 1 and no windows.
+    let sheet = [&[3, 2, 4, 4, 0][..], &[0; 12], &[1, 0, 1, 0, 0, 2, 0, 1, 2, 1, 0, 1, 0, 1, 2, 1, 0]].concat();
     let output = run(MODEL, &["3", "2", "4", "1", "1"], MODEL.len());
     assert!(output.stdout == sheet && output.stderr.is_empty(), "{output:?}");
     // d = 64; H of three bytes.
     let output = run(MODEL, &["6", "64", "65535", "4294967295", "67108864"], MODEL.len());
-    let sheet = [&[6, 64, 0xff, 0xff, 3, 4, 0][..], &[0; 12], &[1, 0, 64, 0, 0, 2, 0, 1, 2, 1, 0, 1, 0, 1, 2]].concat();
+    let sheet = [&[6, 64, 0xff, 0xff, 3, 4, 0][..], &[0; 12], &[1, 0, 64, 0, 0, 2, 0, 1, 2, 1, 0, 1, 0, 1, 2, 1, 0]].concat();
     assert!(output.stdout == sheet && output.stderr.is_empty(), "{output:?}");
 }
 

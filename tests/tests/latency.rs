@@ -1,13 +1,13 @@
 //! The latency is that of outputs (document 02, U7): the greatest ready step among nodes with the output mark, and 0 if none has it. The horizon binds
 //! every node. Each kind of output, and what is none, case by case; and made-up sheets whose marks are taken away, given and changed.
 #![cfg(planner)]
-use maps_tests::compare::{listing, planned, Met};
+use maps_tests::compare::{found, listing, planned, Met};
 use maps_tests::library::Answer;
 use maps_tests::limits::{width, H};
 use maps_tests::made::{self, boxed, differences, input, long, memories, numbers, ring, small, spelled, stairs, table, Size};
 use maps_tests::plan::Plan;
 use maps_tests::random::Random;
-use maps_tests::reader::{Node, Refusal, Sheet};
+use maps_tests::reader::{Node, Sheet};
 
 const SEED: u64 = 20260117;
 
@@ -18,7 +18,7 @@ fn mark(output: bool, node: Node) -> Node {
 
 /// A sheet with K = 2 and T = 4.
 fn sheet(horizon: u32, nodes: &[Node], triples: &[(u32, u32, i32)]) -> Sheet {
-    Sheet { leaves: 2, top: 4, horizon, nodes: nodes.to_vec(), differences: differences(triples) }
+    Sheet { leaves: 2, top: 4, horizon, nodes: nodes.to_vec(), differences: differences(triples), ..Sheet::default() }
 }
 
 /// Its listing, or the line of its refusal.
@@ -197,18 +197,6 @@ fn made_up(random: &mut Random, round: u32) -> Sheet {
 fn marked(sheet: &Sheet, output: impl Fn(usize) -> bool) -> Sheet {
     let nodes = sheet.nodes.iter().enumerate().map(|(v, node)| mark(output(v), node.clone())).collect();
     Sheet { nodes, ..sheet.clone() }
-}
-
-/// The plan of a sheet, or its refusal. Of the plan all is checked that can be told without brute force; its latency is within H.
-fn found(sheet: &Sheet) -> Result<Plan, Refusal> {
-    let (answer, buffer) = planned(&spelled(&numbers(sheet)), 5000);
-    if answer.number != 0 {
-        return Err((answer.number, answer.place));
-    }
-    let plan = Plan::decoded(sheet.nodes.len(), &buffer[..answer.place as usize]);
-    plan.check(sheet);
-    assert!(plan.latency <= sheet.horizon, "{sheet:?}");
-    Ok(plan)
 }
 
 /// The step in which each node of a plan is ready.

@@ -4,9 +4,9 @@
 #![cfg(planner)]
 use maps_tests::buffer::{after, lent};
 use maps_tests::library::{plan, read, write, Answer, Tables};
-use maps_tests::limits::{clock_to_q, fields, Range, CODE, H, K, KIND, M, MARK, N, NUMBER, SIZES, T};
-use maps_tests::made::{input, numbers, respelled, spelled, table, weight};
-use maps_tests::reader::{self, Difference, Node, Sheet};
+use maps_tests::limits::{clock_to_q, fields, window_from, window_to, Range, CODE, H, K, KIND, M, MARK, N, NUMBER, P, SIZES, T};
+use maps_tests::made::{boxed, input, numbers, period_index, respelled, spelled, table, weight, windows};
+use maps_tests::reader::{self, Difference, Node, Sheet, Window};
 use maps_tests::writer::{self, Records, Rows};
 
 /// Number and place, from planning and from reading alike.
@@ -28,7 +28,7 @@ fn taken(name: &str, bytes: &[u8]) {
     assert!(tables == Tables::of(&reader::read(bytes).expect("a sheet that reads")), "tables: {name}");
 }
 
-/// The most nodes or differences that are given here, more than a sheet holds.
+/// The most nodes, differences or windows that are given here, more than a sheet holds.
 const MANY: u32 = 70_000;
 
 /// The records whose sheet has these numbers, as many of them as counts say while there are some; then 0. At most `MANY` are given.
@@ -45,7 +45,13 @@ fn records(numbers: &[u32]) -> Records {
         Difference { from, to, weight: weight(code) }
     });
     let differences = differences.collect();
-    Records { leaves, top, horizon, nodes, differences }
+    let [period, count] = std::array::from_fn(|_| rest.next().unwrap_or(0));
+    let windows = (0..count.min(MANY)).map(|_| {
+        let [id, from, to] = std::array::from_fn(|_| rest.next().unwrap_or(0));
+        Window { id, from, to }
+    });
+    let windows = windows.collect();
+    Records { leaves, top, horizon, nodes, differences, period, windows }
 }
 
 /// Writing the sheet with these numbers gives this answer, and these bytes at the front of the buffer.
@@ -107,7 +113,7 @@ fn both_ends(name: &str, (low, high): Range, index: usize, sheet: impl Fn(u32) -
 /// A sheet of `n` inputs and `m` differences that hold.
 fn plain(n: u32, m: u32) -> Sheet {
     let differences = vec![Difference { from: 0, to: 0, weight: 0 }; m as usize];
-    Sheet { leaves: K.0, top: T.0, horizon: H.0, nodes: vec![input(); n as usize], differences }
+    Sheet { nodes: vec![input(); n as usize], differences, ..Sheet::default() }
 }
 
 #[test]
@@ -268,6 +274,86 @@ fn differences() {
     }
 }
 
+/// A sheet of `n` boxes with these windows.
+fn slots(n: u32, period: u32, triples: &[(u32, u32, u32)]) -> Sheet {
+    Sheet { nodes: vec![boxed(0, 0, 0, &[]); n as usize], period, windows: windows(triples), ..Sheet::default() }
+}
+
+#[test]
+fn periods_and_counts() {
+    for sheet in [plain(1, 0), plain(3, 2), plain(N.1, M.1), slots(2, 1, &[(0, 0, 1)]), slots(2, 1, &[(0, 0, 1), (1, 0, 1)])] {
+        let index = period_index(&sheet);
+        let with = |period: u32| {
+            let mut all = numbers(&sheet);
+            all[index] = period;
+            all
+        };
+        both_ends("P", P, index, with);
+    }
+    // As many windows as the count says, up to more than there are nodes; past the last box there is none to name.
+    for n in [1, 2, 63, 64, 127, 128, 129, N.1] {
+        let sheet = |count: u32| {
+            let given: Vec<(u32, u32, u32)> = (0..count.min(MANY)).map(|id| (id, 0, 1)).collect();
+            let mut all = numbers(&slots(n, 1, &given));
+            all[period_index(&slots(n, 1, &[])) + 1] = count;
+            all
+        };
+        both_ends(&format!("count of windows, n = {n}"), (0, n), period_index(&slots(n, 1, &[])) + 1, sheet);
+    }
+}
+
+#[test]
+fn fields_of_a_window() {
+    for period in [P.0, P.0 + 1, 7, 8, P.1 - 1, P.1] {
+        for (n, which) in [(1, 0), (3, 0), (3, 2), (N.1, 127), (N.1, 128), (N.1, N.1 - 1)] {
+            // The window of box `which`, after those of all boxes before it.
+            let with = |from: u32, to: u32| {
+                let before = (0..which).map(|id| (id, 0, period));
+                numbers(&slots(n, period, &before.chain([(which, from, to)]).collect::<Vec<_>>()))
+            };
+            let index = period_index(&slots(n, period, &[])) + 2 + 3 * which as usize;
+            let name = |field: &str| format!("{field} of the window of box {which}, P = {period}");
+            // Where from is right, so is to.
+            both_ends(&name("from"), window_from(period), index + 1, |from| with(from, period));
+            for from in [0, period / 2, period - 1] {
+                both_ends(&format!("{} from {from}", name("to")), window_to(from, period), index + 2, |to| with(from, to));
+            }
+        }
+    }
+}
+
+#[test]
+fn ids_of_windows() {
+    // A box at each end of the ids and inputs between them.
+    for n in [1, 2, 3, 127, 128, 129, N.1] {
+        let mut sheet = plain(n, 1);
+        for own in [0, n / 2, n - 1] {
+            sheet.nodes[own as usize] = boxed(0, 0, 0, &[]);
+        }
+        let with = |ids: &[u32]| {
+            let entries = ids.iter().map(|&id| Window { id, from: 0, to: 1 }).collect();
+            numbers(&Sheet { windows: entries, ..sheet.clone() })
+        };
+        let index = period_index(&sheet) + 2;
+        let is_box = |id: u32| [0, n / 2, n - 1].contains(&id);
+        for id in (0..n).filter(|&id| is_box(id)) {
+            inside("the only id", &with(&[id]), index);
+        }
+        let wrong = |least: u32| (0..n).filter(move |&id| !is_box(id) || id < least).chain(above((0, n - 1)));
+        for id in wrong(0) {
+            outside("the only id", &with(&[id]), index, 3);
+        }
+        for first in (0..n).filter(|&id| is_box(id)) {
+            for second in (first + 1..n).filter(|&id| is_box(id)) {
+                inside("the second id", &with(&[first, second]), index + 3);
+            }
+            for second in wrong(first + 1).filter(|_| n > 1) {
+                outside("the second id", &with(&[first, second]), index + 3, 3);
+            }
+        }
+    }
+}
+
 /// Spellings with a third byte that is none, 0 or above 127: each such byte after 80 80, some after other bytes.
 fn wrong_thirds() -> Vec<[u8; 3]> {
     let mut all: Vec<[u8; 3]> = (128..=255).chain([0]).map(|third| [0x80, 0x80, third]).collect();
@@ -298,13 +384,13 @@ const SPELLINGS: [(&[u8], u32); 12] = [
 
 #[test]
 fn spelling() {
-    // Every number of a sheet with two inputs, a table, a box and a difference.
-    let mut sheet = plain(2, 1);
+    // Every number of a sheet with two inputs, a table, a box, a difference and a window.
+    let mut sheet = Sheet { windows: windows(&[(3, 0, 1)]), ..plain(2, 1) };
     sheet.nodes.extend([table(true, &[0, 1]), Node { operands: vec![2, 0], ..least_of(2, 1) }]);
     let all = numbers(&sheet);
     let operands = [23, 24, 31, 32];
     assert_eq!(operands.map(|index| all[index]), [0, 1, 2, 0]);
-    let (horizon, code) = (2, all.len() - 1);
+    let (horizon, code) = (2, period_index(&sheet) - 1);
     taken("the whole sheet", &spelled(&all));
     let mut spelled_rightly = 0;
     for index in 0..all.len() {

@@ -4,7 +4,8 @@
 use maps_tests::compare::Met;
 use maps_tests::library::plan;
 use maps_tests::limits::{H, W};
-use maps_tests::made::{self, any_q, boxed, chain, differences, greatest, input, long, memories, numbers, respelled, small, spelled, stairs, table, Size};
+use maps_tests::made::{self, any_q, boxed, chain, differences, greatest, greatest_with, input, long, memories, numbers, respelled, slots, small};
+use maps_tests::made::{spelled, stairs, table, windows, Size};
 use maps_tests::plan::{refusal_line, Plan};
 use maps_tests::planner::planned;
 use maps_tests::programs::{compare_lines, in_pieces, program, STOP};
@@ -62,8 +63,9 @@ fn small_sheets() {
     println!("seed {SEED}");
     let mut random = Random::new(SEED);
     let mut met = Met::default();
-    for round in 0..400 {
-        let sheet = match round % 5 {
+    for round in 0..480 {
+        let sheet = match round % 6 {
+            5 => slots(&mut random, 9, 60),
             0 => stairs(&mut random),
             1 => small(&mut random, &Size { nodes: 12, top: 64, horizon: H.1, latency: 255, wide: false }),
             2 => long(&mut random),
@@ -105,7 +107,7 @@ fn spread(random: &mut Random, n: u32) -> Sheet {
             Difference { from: a.min(b), to: a.max(b), weight: if a == b { 0 } else { random.within(0, W / 3) as i32 } }
         })
         .collect();
-    Sheet { leaves: 6, top: 64, horizon: H.1, nodes, differences }
+    Sheet { leaves: 6, top: 64, horizon: H.1, nodes, differences, ..Sheet::default() }
 }
 
 #[test]
@@ -139,7 +141,7 @@ fn differences_of_one_to_five_digits() {
     let fewer = [(9_999, 9_999), (4_095, 4_095), (H.1, 3_807), (1_000, 1_000), (999, 999), (100, 99), (10, 10), (10, 9)];
     for (horizon, weight) in five.into_iter().chain(fewer) {
         let differences = vec![Difference { from: 0, to: 1, weight }];
-        let sheet = Sheet { leaves: 2, top: 1, horizon, nodes: nodes.clone(), differences };
+        let sheet = Sheet { leaves: 2, top: 1, horizon, nodes: nodes.clone(), differences, ..Sheet::default() };
         let expected = format!("latency {weight}\n0 0 0 used\n1 {weight} 0 used\n2 {weight} 1 used 0 1\n");
         compare(&spelled(&numbers(&sheet)), &expected);
     }
@@ -150,9 +152,21 @@ fn the_latency_of_outputs() {
     // A table in step 3, and a box on it with lat = 200, which is an output or not: its line says the same, and the first line does not.
     for (marks, latency) in [([false, false], 0), ([true, false], 3), ([false, true], 203), ([true, true], 203)] {
         let nodes = vec![input(), table(marks[0], &[0]), Node { output: marks[1], ..boxed(0, 200, 1, &[1]) }];
-        let sheet = Sheet { leaves: 2, top: 1, horizon: 203, nodes, differences: differences(&[(0, 1, 3)]) };
+        let sheet = Sheet { leaves: 2, top: 1, horizon: 203, nodes, differences: differences(&[(0, 1, 3)]), ..Sheet::default() };
         compare(&spelled(&numbers(&sheet)), &format!("latency {latency}\n0 0 0 used\n1 3 1 used 0\n2 3 1 used\n"));
         compare(&spelled(&numbers(&Sheet { horizon: 202, ..sheet })), "refused 7 0\n");
+    }
+}
+
+#[test]
+fn a_box_that_waits_for_its_window() {
+    // Box 1 starts in step 2 or 3 of 8, at level d where it waited, and is ready three steps on.
+    for (asked, line) in [(0, "2 1"), (2, "2 1"), (3, "3 1"), (4, "10 1"), (9, "10 1")] {
+        let nodes = vec![input(), boxed(1, 3, 0, &[0])];
+        let (differences, windows) = (differences(&[(0, 1, asked)]), windows(&[(1, 2, 4)]));
+        let sheet = Sheet { horizon: 13, nodes, differences, period: 8, windows, ..Sheet::default() };
+        compare(&spelled(&numbers(&sheet)), &format!("latency 0\n0 0 0 used\n1 {line} used\n"));
+        compare(&spelled(&numbers(&Sheet { horizon: 4, ..sheet })), "refused 7 0\n");
     }
 }
 
@@ -190,7 +204,7 @@ fn tables_without_a_cut() {
         let mut nodes = vec![input(); 3];
         nodes.resize(256, table(true, &[1]));
         nodes[own as usize] = table(false, &[0, 1, 2]);
-        let sheet = Sheet { leaves: 2, top: 1, horizon: 0, nodes, differences: Vec::new() };
+        let sheet = Sheet { leaves: 2, top: 1, horizon: 0, nodes, ..Sheet::default() };
         compare(&spelled(&numbers(&sheet)), &format!("refused 6 {own}\n"));
     }
 }
@@ -198,7 +212,7 @@ fn tables_without_a_cut() {
 #[test]
 fn input_longer_than_the_program_reads() {
     let mut random = Random::new(SEED + 3);
-    for sheet in [chain(16, 4_095), greatest(&mut random), spread(&mut random, 6)] {
+    for sheet in [chain(16, 4_095), greatest(&mut random), greatest_with(&mut random, |_| (63, 64)), spread(&mut random, 6)] {
         let bytes = spelled(&numbers(&sheet));
         for length in [STOP - 1, STOP, STOP + 1, STOP + 128, 2 * STOP, 10 * STOP + 1] {
             let longer = [bytes.clone(), vec![0; length - bytes.len()]].concat();

@@ -87,7 +87,7 @@ fn compare_counts(sheet: &Sheet) -> Vec<Count> {
 
 /// A sheet of these nodes.
 fn sheet(leaves: u32, nodes: Vec<Node>) -> Sheet {
-    Sheet { leaves, top: 8, horizon: 100, nodes, differences: Vec::new() }
+    Sheet { leaves, top: 8, horizon: 100, nodes, ..Sheet::default() }
 }
 
 /// So many inputs, and these nodes above them.
@@ -109,7 +109,7 @@ fn shows(leaves: u32, nodes: &[Node], lines: &str) {
 fn the_hall_sheet() {
     // Looked at: 4, 3, 0, 1, 2, and 3 again.
     let nodes = above(3, &[table(false, &[0, 1]), table(false, &[3, 2]), table(true, &[4, 3])]);
-    let hall = Sheet { leaves: 3, top: 2, horizon: 4, nodes, differences: vec![Difference { from: 0, to: 5, weight: 1 }] };
+    let hall = Sheet { leaves: 3, top: 2, horizon: 4, nodes, differences: vec![Difference { from: 0, to: 5, weight: 1 }], ..Sheet::default() };
     compare(&spelled(&numbers(&hall)), "node 5: 3 leaves; operands looked at: 6 before, 6 now\n");
     // The third leaf is the fifth operand. Neither H nor the differences have a say.
     for horizon in [0, 4, H.1] {
@@ -356,8 +356,8 @@ fn sheets_at_the_limits() {
 
 #[test]
 fn refused_sheets() {
-    // K, T, H, n, m; an input; a table that reads it.
-    let whole = [2, 1, 0, 2, 0, 0, 0, 0, 0, 0, 0, 1, 1, 1, 0, 0, 1, 0];
+    // K, T, H, n, m; an input; a table that reads it; P and no windows.
+    let whole = [2, 1, 0, 2, 0, 0, 0, 0, 0, 0, 0, 1, 1, 1, 0, 0, 1, 0, 1, 0];
     compare(&whole, "node 1: 1 leaves; operands looked at: 1 before, 1 now\n");
     compare(&[], "refused 1 0\n");
     (0..whole.len()).for_each(|length| compare(&whole[..length], &format!("refused 1 {length}\n")));
@@ -373,11 +373,16 @@ fn refused_sheets() {
     compare(&with(15, &[1]), "refused 3 15\n");
     compare(&with(16, &[0]), "refused 3 16\n");
     compare(&with(17, &[1]), "refused 4 17\n");
-    compare(&with(17, &[0, 0]), "refused 5 18\n");
+    compare(&with(18, &[0]), "refused 3 18\n");
+    compare(&with(18, &[65]), "refused 3 18\n");
+    compare(&with(19, &[3]), "refused 3 19\n");
+    // A window of the table, which is no box.
+    compare(&with(19, &[1, 1, 0, 1]), "refused 3 20\n");
+    compare(&with(19, &[0, 0]), "refused 5 20\n");
     // No more lines than this one, also where an output stands before the fault.
     let two = spelled(&numbers(&sheet(2, above(1, &[table(true, &[0]), table(true, &[1])]))));
-    let place = two.len() - 1;
-    compare(&[&two[..place], &[2]].concat(), &format!("refused 4 {place}\n"));
+    let place = two.len() - 3;
+    compare(&[&two[..place], &[2, 1, 0]].concat(), &format!("refused 4 {place}\n"));
 }
 
 #[test]

@@ -7,7 +7,7 @@ use maps_tests::compare::{compare, compare_all, planned, Met};
 use maps_tests::labels::{ends, fitting_cuts, least, least_ever, legal, Label};
 use maps_tests::library::Answer;
 use maps_tests::limits::{fields, H, M, N, W};
-use maps_tests::made::{boxed, differences, input, long, memories, numbers, respelled, ring, small, spelled, stairs, table, Size};
+use maps_tests::made::{boxed, differences, input, long, memories, numbers, orders, respelled, ring, small, spelled, stairs, table, Size};
 use maps_tests::random::Random;
 use maps_tests::reader::{Difference, Node, Sheet};
 
@@ -218,7 +218,7 @@ fn horizons_round_the_least_one() {
 /// Holds the planning call to the least horizon of sheets that differ in their differences alone, at horizons of every size.
 fn cases(name: &str, leaves: u32, top: u32, nodes: &[Node], rows: &[(&[(u32, u32, i32)], Option<u32>)]) {
     for (triples, least) in rows {
-        let sheet = Sheet { leaves, top, horizon: 0, nodes: nodes.to_vec(), differences: differences(triples) };
+        let sheet = Sheet { leaves, top, horizon: 0, nodes: nodes.to_vec(), differences: differences(triples), ..Sheet::default() };
         at_horizons(&format!("{name} {triples:?}"), &sheet, *least, &HORIZONS, &mut Met::default());
     }
 }
@@ -315,12 +315,6 @@ fn never_apart_from_the_rest() {
     cases("hall", 3, 2, &hall, &cases_of_hall);
 }
 
-/// The numbers below n in rising, in falling and in zigzag order.
-fn orders(n: u32) -> [(&'static str, Vec<u32>); 3] {
-    let zigzag = (0..n).map(|i| if i % 2 == 0 { i / 2 } else { n - 1 - i / 2 }).collect();
-    [("rising", (0..n).collect()), ("falling", (0..n).rev().collect()), ("zigzag", zigzag)]
-}
-
 /// K = 3, T = 1, S = node 4 in step 1 and a ring of differences that leads from the last node B by inputs, in an order, to P = node 5. B reads P
 /// and S, and three leaves are too few to hide both, with their two inputs each. While P is before S, B hides S and is in step 1. That sends P there,
 /// so B flows over to step 2, where P is hidden: the ring is gone round again, and all is settled. The first difference has this w, the others 0.
@@ -333,7 +327,7 @@ fn round_again(order: &[u32], weight: i32) -> Sheet {
     let mut all: Vec<(u32, u32, i32)> = ring.windows(2).map(|pair| (pair[0], pair[1], 0)).collect();
     all[0].2 = weight;
     all.push((0, 4, 1));
-    Sheet { leaves: 3, top: 1, horizon: 0, nodes, differences: differences(&all) }
+    Sheet { leaves: 3, top: 1, horizon: 0, nodes, differences: differences(&all), ..Sheet::default() }
 }
 
 #[test]
@@ -360,7 +354,7 @@ fn farthest(order: &[u32], back: bool, short: Option<usize>) -> Sheet {
             all.push((pair[1], pair[0], if short == Some(i) { 1 - w } else { -w }));
         }
     }
-    Sheet { leaves: 2, top: 1, horizon: H.1, nodes, differences: differences(&all) }
+    Sheet { leaves: 2, top: 1, horizon: H.1, nodes, differences: differences(&all), ..Sheet::default() }
 }
 
 #[test]
@@ -415,7 +409,7 @@ fn tables_one_above_another() {
     // Each table reads the one below it and an input of its own: with K = 2 and T = 1 it is a step after that one, with K = 3 two of them share one.
     for (leaves, top, last) in [(2, 1, 127), (3, 1, 63), (2, 2, 63), (3, 4, 15), (2, 64, 1)] {
         let nodes: Vec<Node> = (0..256).map(|own| if own < 128 { input() } else { table(own == 255, &[own - 128, (own - 1).max(127)]) }).collect();
-        let tower = |weight: i32| Sheet { leaves, top, horizon: 0, nodes: nodes.clone(), differences: differences(&[(255, 0, weight)]) };
+        let tower = |weight: i32| Sheet { leaves, top, nodes: nodes.clone(), differences: differences(&[(255, 0, weight)]), ..Sheet::default() };
         let name = format!("K = {leaves}, T = {top}");
         for weight in [-(W as i32), -(last as i32) - 1, -(last as i32)] {
             assert_eq!([0, last - 1, last, H.1].map(|horizon| number_of(&tower(weight), horizon)), [7, 7, 0, 0], "{name}, {weight}");
@@ -430,7 +424,7 @@ fn tables_one_above_another() {
 fn the_order_of_grounds() {
     // A ring that rises, over a table with two operands.
     let nodes = vec![input(), input(), table(true, &[0, 1])];
-    let never = Sheet { leaves: 2, top: 1, horizon: 0, nodes, differences: differences(&[(2, 0, 1)]) };
+    let never = Sheet { leaves: 2, top: 1, horizon: 0, nodes, differences: differences(&[(2, 0, 1)]), ..Sheet::default() };
     let mut met = Met::default();
     let mut number = |bytes: &[u8]| compare(bytes, &mut met).expect_err("a refusal");
     for horizon in HORIZONS {

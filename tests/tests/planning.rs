@@ -8,7 +8,8 @@ use maps_tests::header::defined;
 use maps_tests::labels::{carried, ends, fitting_cuts, latency, least, legal, Label};
 use maps_tests::library::{plan, Answer};
 use maps_tests::limits::{fields, width, H, N, T, W};
-use maps_tests::made::{self, chain, damaged, greatest, input, long, memories, numbers, respelled, ring, small, spelled, stairs, table, variant, Size};
+use maps_tests::made::{self, chain, damaged, greatest, input, long, memories, numbers, respelled, ring, slots, small, spelled, stairs, table, variant};
+use maps_tests::made::{windowed, Size};
 use maps_tests::plan::Plan;
 use maps_tests::planner;
 use maps_tests::random::Random;
@@ -104,7 +105,7 @@ fn sheets_with_long_paths() {
 #[test]
 fn every_step() {
     // Two inputs w steps apart, the second an output or not: within w, and not within less.
-    let apart = |mark: u32, horizon: u32, w: u32| spelled(&[2, 1, horizon, 2, 1, 0, 0, 0, 0, 0, 0, 0, mark, 0, 0, 0, 0, 0, 1, 2 * w]);
+    let apart = |mark: u32, horizon: u32, w: u32| spelled(&[2, 1, horizon, 2, 1, 0, 0, 0, 0, 0, 0, 0, mark, 0, 0, 0, 0, 0, 1, 2 * w, 1, 0]);
     let mut of_three = 0;
     for (w, mark) in (0..=W).flat_map(|w| [(w, 0), (w, 1)]) {
         let plan = spelled(&[w * mark, 0, 0, 0, 0, w, 0, mark, 0]);
@@ -128,14 +129,17 @@ fn damaged_sheets() {
     assert!(NUMBERS.iter().all(|&number| met[number] > 500), "{met:?}");
 }
 
-/// A few small bytes behind a header whose values are mostly in range, with some bytes of any value.
+/// A few small bytes behind a header whose values are mostly in range, with some bytes of any value; the last two are mostly P = 1 and no windows.
 fn mostly_small(random: &mut Random) -> Vec<u8> {
-    let length = random.within(0, 27);
+    let length = random.within(0, 29);
     let mut bytes: Vec<u8> = (0..length).map(|_| if random.once_in(16) { random.next() as u8 } else { random.within(0, 3) as u8 / 3 }).collect();
     for (byte, value) in bytes.iter_mut().zip([random.within(2, 6), 2, 4, random.within(1, 3), random.within(0, 1)]) {
         if !random.once_in(16) {
             *byte = value as u8;
         }
+    }
+    if let Some(last) = bytes.last_chunk_mut().filter(|_| !random.once_in(4)) {
+        *last = [1, 0];
     }
     bytes
 }
@@ -241,6 +245,20 @@ fn labels_of_tiny_sheets_with_memories_are_least_by_definition() {
     });
     println!("sheets with a reader of a memory with a q: {read}");
     assert!(met[0] > 1000 && met[7] > 1000 && met[12] > 100 && later > 500 && read > 1500, "{met:?}, {later}, {read}");
+    assert!(below[0] > 200 && below[1] > 50, "{below:?}");
+}
+
+#[test]
+fn labels_of_tiny_sheets_with_windows_are_least_by_definition() {
+    // Half of them of mostly boxes.
+    let (met, later, below) = compare_by_definition(SEED + 12, 5000, |random, round| match round % 2 {
+        0 => slots(random, 3, 4),
+        _ => {
+            let whole = memories(random, 4, 2, 3);
+            windowed(random, whole)
+        }
+    });
+    assert!(met[0] > 1000 && met[7] > 1500 && met[12] > 5 && later > 500, "{met:?}, {later}");
     assert!(below[0] > 200 && below[1] > 50, "{below:?}");
 }
 
@@ -375,7 +393,7 @@ fn the_header_says_what_no_plan_exceeds() {
     let leaves_of = |own: u32| if own < 128 { &inputs[..6] } else { &inputs[6..] };
     let node = |own: u32| if inputs.contains(&own) { Node { output: true, ..input() } } else { table(true, leaves_of(own)) };
     let differences = inputs[1..].iter().map(|&to| Difference { from: 0, to, weight: W as i32 }).collect();
-    let sheet = Sheet { leaves, top: T.0, horizon: H.1, nodes: (0..N.1).map(node).collect(), differences };
+    let sheet = Sheet { leaves, top: T.0, horizon: H.1, nodes: (0..N.1).map(node).collect(), differences, ..Sheet::default() };
     let mut plan = vec![H.1];
     for own in 0..N.1 {
         let step = if own == 0 { 0 } else { H.1 };
@@ -436,7 +454,7 @@ fn hall(leaves: u32, top: u32, horizon: u32, differences: &[(u32, u32, i32)]) ->
     let mut nodes = vec![input(); 3];
     nodes.extend([table(false, &[0, 1]), table(false, &[3, 2]), table(true, &[4, 3])]);
     let differences = differences.iter().map(|&(from, to, weight)| Difference { from, to, weight }).collect();
-    spelled(&numbers(&Sheet { leaves, top, horizon, nodes, differences }))
+    spelled(&numbers(&Sheet { leaves, top, horizon, nodes, differences, ..Sheet::default() }))
 }
 
 #[test]
@@ -446,7 +464,7 @@ fn the_cases_of_document_01() {
     let whole = "latency 1\n0 0 0 used\n1 0 0 used\n2 0 0 used\n3 0 1 used 0 1\n4 0 1 idle\n5 1 1 used 2 3\n";
     let spelling: Vec<u8> = [
         "0302040601000000000000000000000000000000000000010001000002000101000100000203020101",
-        "010000020403000502",
+        "0100000204030005020100",
     ]
     .concat()
     .as_bytes()
@@ -454,7 +472,7 @@ fn the_cases_of_document_01() {
     .map(|pair| u8::from_str_radix(std::str::from_utf8(pair).unwrap(), 16).unwrap())
     .collect();
     assert_eq!(spelling, hall(3, 2, 4, &[(0, 5, 1)]));
-    assert_eq!(spelling.len(), 50);
+    assert_eq!(spelling.len(), 52);
     assert_eq!(planned(&spelling, 29), (
         Answer { number: 0, place: 29 },
         vec![1, 0, 0, 1, 0, 0, 0, 1, 0, 0, 0, 1, 0, 0, 1, 1, 2, 0, 1, 0, 1, 0, 0, 1, 1, 1, 2, 2, 3],
@@ -471,7 +489,7 @@ fn the_cases_of_document_01() {
     assert_eq!(listing(&hall(3, 2, 4, &[(0, 5, 1), (2, 2, 0)])), whole);
     assert_eq!(listing(&hall(3, 2, 4, &[(0, 5, 1), (2, 2, 1)])), never);
 
-    let spell = |leaves, top, horizon, nodes| spelled(&numbers(&Sheet { leaves, top, horizon, nodes, differences: Vec::new() }));
+    let spell = |leaves, top, horizon, nodes| spelled(&numbers(&Sheet { leaves, top, horizon, nodes, ..Sheet::default() }));
     let one = |v| table(v, &[0]);
     let reconvergent = vec![input(), one(false), one(false), one(false), table(true, &[1, 2, 3])];
     assert!(listing(&spell(2, 1, 0, reconvergent)).ends_with("4 0 1 used 0\n"));
@@ -518,7 +536,7 @@ fn the_cases_of_document_02() {
 /// K = 2, T = 4, H = 9: an input, a box with d = 0 on it that has this lat and q, and these nodes.
 fn memory(latency: u32, clock_to_q: u32, nodes: &[Node]) -> Vec<u8> {
     let first = [input(), Node { kind: 2, latency, clock_to_q, operands: vec![0], ..input() }];
-    spelled(&numbers(&Sheet { leaves: 2, top: 4, horizon: 9, nodes: [&first, nodes].concat(), differences: Vec::new() }))
+    spelled(&numbers(&Sheet { leaves: 2, top: 4, horizon: 9, nodes: [&first, nodes].concat(), ..Sheet::default() }))
 }
 
 /// A node that reads these.
@@ -558,7 +576,7 @@ fn every_q_below_every_delay() {
             let memory = Node { kind: 2, latency: 2, clock_to_q: q, operands: vec![0], ..input() };
             for kind in [2, 1].into_iter().filter(|&kind| delay > 0 || kind == 2) {
                 let nodes = vec![input(), memory.clone(), reader_of(kind, true, delay, &[1])];
-                let sheet = Sheet { leaves: 2, top, horizon: 3, nodes, differences: Vec::new() };
+                let sheet = Sheet { leaves: 2, top, horizon: 3, nodes, ..Sheet::default() };
                 let leaves = if kind == 1 { " 1" } else { "" };
                 let expected = format!("latency {step}\n0 0 0 used\n1 0 0 used\n2 {step} {level} used{leaves}\n");
                 assert_eq!(listing(&spelled(&numbers(&sheet))), expected, "T = {top}, q = {q}, d = {delay}");
@@ -576,7 +594,7 @@ fn q_enters_no_step() {
     let sheet = |clock_to_q: u32, horizon: u32, differences: &[(u32, u32, i32)]| {
         let nodes = vec![input(), Node { kind: 2, output: true, latency: 2, clock_to_q, operands: vec![0], ..input() }, input()];
         let differences = differences.iter().map(|&(from, to, weight)| Difference { from, to, weight }).collect();
-        spelled(&numbers(&Sheet { leaves: 2, top: 4, horizon, nodes, differences }))
+        spelled(&numbers(&Sheet { leaves: 2, top: 4, horizon, nodes, differences, ..Sheet::default() }))
     };
     for q in 0..=4 {
         assert_eq!(listing(&sheet(q, 2, &[])), "latency 2\n0 0 0 used\n1 0 0 used\n2 0 0 idle\n");
@@ -612,15 +630,15 @@ fn q_where_it_may_not_be() {
         // On a table, on an input, and on an input that is node 0.
         assert_eq!(listing(&memory(2, 3, &[Node { clock_to_q: q, ..reader.clone() }])), "refused 3 22\n");
         assert_eq!(listing(&memory(2, 3, &[Node { clock_to_q: q, ..input() }])), "refused 3 22\n");
-        assert_eq!(listing(&spelled(&[2, 1, 0, 1, 0, 0, 0, 0, 0, q, 0])), "refused 3 9\n");
+        assert_eq!(listing(&spelled(&[2, 1, 0, 1, 0, 0, 0, 0, 0, q, 0, 1, 0])), "refused 3 9\n");
     }
     assert_eq!(listing(&memory(0, 0, &[reader])), "latency 0\n0 0 0 used\n1 0 0 used\n2 0 1 used 1\n");
     // Its spelling comes before its value, and the number may be missing.
-    let all = [2, 1, 0, 1, 0, 0, 0, 0, 0, 0, 0];
+    let all = [2, 1, 0, 1, 0, 0, 0, 0, 0, 0, 0, 1, 0];
     assert_eq!(listing(&respelled(&all, 9, &[0x80, 0])), "refused 2 9\n");
     assert_eq!(listing(&spelled(&all[..9])), "refused 1 9\n");
-    // A sheet without q has its operand count in its place.
-    assert_eq!(listing(&spelled(&all[..10])), "refused 1 10\n");
+    // A sheet without q has its operand count in its place, and P in the place of that.
+    assert_eq!(listing(&spelled(&[&all[..9], &all[10..]].concat())), "refused 3 10\n");
 }
 
 #[test]

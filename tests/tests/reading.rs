@@ -1,7 +1,7 @@
 //! The proved reader against the independent one: number, place and both tables, on sheets within the ranges, damaged sheets and random bytes.
 use maps_tests::library::{read, Answer, Tables};
 use maps_tests::limits::{width, H};
-use maps_tests::made::{damaged, greatest_up_to, numbers, sheet, spelled, wrong_q};
+use maps_tests::made::{damaged, greatest_up_to, greatest_with, numbers, period_index, sheet, slots, spelled, wrong_q, wrong_windows};
 use maps_tests::random::Random;
 use maps_tests::reader;
 
@@ -32,6 +32,8 @@ fn made_up_sheets_read() {
     let (mut horizons, mut all) = ([0; 3], [0; 3]);
     // How many boxes with a latency have q = 0, q = T and a q between them.
     let mut levels = [0; 3];
+    // How many windows are whole, of one step, up to the end of the period, and of another shape.
+    let mut shapes = [0; 4];
     for round in 0..4000 {
         let most = if round % 10 == 0 { 256 } else { 12 };
         let sheet = sheet(&mut random, most);
@@ -39,12 +41,16 @@ fn made_up_sheets_read() {
         for node in sheet.nodes.iter().filter(|node| node.latency > 0) {
             levels[if node.clock_to_q == 0 { 0 } else if node.clock_to_q == sheet.top { 1 } else { 2 }] += 1;
         }
+        for window in &sheet.windows {
+            let ways = [window.to - window.from == sheet.period, window.to - window.from == 1, window.to == sheet.period, true];
+            shapes[ways.iter().position(|&way| way).unwrap()] += 1;
+        }
         numbers(&sheet).into_iter().for_each(|value| all[width(value) - 1] += 1);
         assert_eq!(compare(&spelled(&numbers(&sheet))), (0, 0));
     }
-    println!("by bytes: H {horizons:?}, all numbers {all:?}; q of 0, of T and between: {levels:?}");
+    println!("by bytes: H {horizons:?}, all numbers {all:?}; q of 0, of T and between: {levels:?}; windows: {shapes:?}");
     assert!(horizons.iter().all(|&count| count > 1000) && all.iter().all(|&count| count > 50_000), "{horizons:?} {all:?}");
-    assert!(levels.iter().all(|&count| count > 1000), "{levels:?}");
+    assert!(levels.iter().all(|&count| count > 1000) && shapes.iter().all(|&count| count > 500), "{levels:?} {shapes:?}");
 }
 
 /// What was wrong with a number: its third byte is missing, its second is 0, its third is 0, its third is above 127.
@@ -111,6 +117,33 @@ fn every_q_out_of_its_range_is_refused_there() {
 }
 
 #[test]
+fn every_number_of_the_windows_made_wrong() {
+    println!("seed {}", SEED + 6);
+    let mut random = Random::new(SEED + 6);
+    // P, the count, and id, from and to of a window.
+    let mut met = [0; 5];
+    for round in 0..1500 {
+        let whole = if round % 2 == 0 { slots(&mut random, 8, 9) } else { sheet(&mut random, 6) };
+        let first = period_index(&whole);
+        for (index, value) in wrong_windows(&whole) {
+            let mut all = numbers(&whole);
+            all[index] = value;
+            let place = spelled(&all[..index]).len();
+            let bytes = spelled(&all);
+            assert_eq!(compare(&bytes), (3, place as u64), "number {index} = {value} of {whole:?}");
+            // What comes after it has no say: a wrong spelling, nothing at all, or bytes past the end.
+            let end = place + width(value);
+            assert_eq!(compare(&bytes[..end]), (3, place as u64));
+            assert_eq!(compare(&[&bytes[..end], &[0x80, 0]].concat()), (3, place as u64));
+            assert_eq!(compare(&[&bytes[..], &[0]].concat()), (3, place as u64));
+            met[if index < first + 2 { index - first } else { 2 + (index - first - 2) % 3 }] += 1;
+        }
+    }
+    println!("P, counts, ids, from and to: {met:?}");
+    assert!(met.iter().all(|&count| count > 4000), "{met:?}");
+}
+
+#[test]
 fn random_bytes_are_refused_alike() {
     println!("seed {SEED}");
     let mut random = Random::new(SEED + 2);
@@ -146,4 +179,6 @@ fn the_greatest_sheet_reads() {
     for far in [4_095, H.1] {
         assert_eq!(compare(&spelled(&numbers(&greatest_up_to(&mut random, far)))), (0, 0));
     }
+    let windowed = greatest_with(&mut random, |random| (random.within(0, 63), 64));
+    assert_eq!((windowed.windows.len(), compare(&spelled(&numbers(&windowed)))), (127, (0, 0)));
 }

@@ -5,7 +5,7 @@ use maps_tests::blif::Caller;
 use maps_tests::header::defined;
 use maps_tests::library::{import, plan, write};
 use maps_tests::limits::{fields, H, N};
-use maps_tests::made::{chain, greatest, input, numbers, spelled, table};
+use maps_tests::made::{chain, greatest, greatest_with, input, numbers, spelled, table};
 use maps_tests::models::abc;
 use maps_tests::programs::root;
 use maps_tests::random::Random;
@@ -230,7 +230,7 @@ fn within_the_bound<T: Send + 'static>(call: &str, work: impl FnOnce() -> T + Se
 /// Tables that each read the one below and one of `inputs` inputs: with T = 1 all of them must be inside one cone, and a walk goes down all of it.
 fn ladder(inputs: u32) -> Sheet {
     let nodes = (0..256).map(|own| if own < inputs { input() } else { table(own == 255, &[own % inputs, own - 1]) }).collect();
-    Sheet { leaves: 6, top: 1, horizon: H.1, nodes, differences: Vec::new() }
+    Sheet { leaves: 6, top: 1, horizon: H.1, nodes, ..Sheet::default() }
 }
 
 #[test]
@@ -239,7 +239,8 @@ fn the_bound_is_enough_for_deep_sheets() {
         let mut random = Random::new(20260105);
         let mut met = [0; 13];
         let chains = [4_095, H.1].into_iter().flat_map(|far| (0..20).map(move |slow| chain(slow, far)));
-        let sheets = (1..40).map(ladder).chain((0..20).map(|_| greatest(&mut random))).chain(chains);
+        let greatest = (0..20).map(|round| if round % 2 == 0 { greatest(&mut random) } else { greatest_with(&mut random, |_| (0, 64)) });
+        let sheets = (1..40).map(ladder).chain(greatest).chain(chains);
         for sheet in sheets.collect::<Vec<_>>() {
             let mut buffer = vec![0; 5000];
             met[plan(&spelled(&numbers(&sheet)), &mut buffer).number as usize] += 1;
@@ -257,7 +258,7 @@ fn the_bound_is_enough_for_the_greatest_records() {
         let mut random = Random::new(20260107);
         let mut met = [0; 9];
         for _ in 0..20 {
-            let rows = Rows::from(&Records::from(&greatest(&mut random)));
+            let rows = Rows::from(&Records::from(&greatest_with(&mut random, |_| (0, 64))));
             let wrong = Rows { differences: vec![256; rows.differences.len()], ..rows.clone() };
             for (rows, room) in [(&rows, 13_000), (&rows, 0), (&wrong, 13_000)] {
                 met[write(rows, &mut vec![0; room]).number as usize] += 1;

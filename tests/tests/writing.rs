@@ -4,10 +4,11 @@
 use maps_tests::buffer::{after, lent};
 use maps_tests::header::defined;
 use maps_tests::library::{read, write, Answer, Tables};
-use maps_tests::limits::{clock_to_q, fields, width, Range, CODE, H, K, KIND, M, MARK, N, NUMBER, SIZES, T, W};
-use maps_tests::made::{self, chain, code, damaged, greatest, long, memories, ring, sheet, small, spelled, stairs, variant, Size};
+use maps_tests::limits::{clock_to_q, fields, width, window_from, window_to, Range, CODE, H, K, KIND, M, MARK, N, NUMBER, P, SIZES, T, W};
+use maps_tests::made::{self, chain, code, damaged, drift, greatest, greatest_with, long, memories, ring, sheet, slots, small, spelled, stairs};
+use maps_tests::made::{variant, windows, Size};
 use maps_tests::random::Random;
-use maps_tests::reader::{self, Difference, Sheet};
+use maps_tests::reader::{self, Difference, Sheet, Window};
 use maps_tests::writer::{outcome, Node, Records, Rows};
 
 const SEED: u64 = 20260106;
@@ -66,6 +67,10 @@ enum Number {
     /// u or v of a difference.
     End(usize, usize),
     Weight(usize),
+    Period,
+    Windows,
+    /// Id, from or to of a window.
+    Window(usize, usize),
 }
 
 /// The numbers of the sheet of these records, in its order: the index of each is the place of its refusal.
@@ -79,6 +84,8 @@ fn all_numbers(records: &Records) -> Vec<Number> {
     for i in 0..records.differences.len() {
         all.extend([Number::End(i, 0), Number::End(i, 1), Number::Weight(i)]);
     }
+    all.extend([Number::Period, Number::Windows]);
+    all.extend((0..records.windows.len()).flat_map(|i| (0..3).map(move |field| Number::Window(i, field))));
     all
 }
 
@@ -97,6 +104,12 @@ impl Number {
             Number::Operand(v, i) => records.nodes[v].operands[i],
             Number::End(i, end) => [records.differences[i].from, records.differences[i].to][end],
             Number::Weight(i) => records.differences[i].weight as u32,
+            Number::Period => records.period,
+            Number::Windows => records.windows.len() as u32,
+            Number::Window(i, field) => {
+                let window = &records.windows[i];
+                [window.id, window.from, window.to][field]
+            }
         }
     }
 
@@ -116,10 +129,17 @@ impl Number {
             Number::End(i, 0) => records.differences[i].from = value,
             Number::End(i, _) => records.differences[i].to = value,
             Number::Weight(i) => records.differences[i].weight = value as i32,
+            Number::Period => records.period = value,
+            Number::Windows => records.windows.resize(count, Window { id: 0, from: 0, to: 1 }),
+            Number::Window(i, field) => {
+                let window = &mut records.windows[i];
+                *[&mut window.id, &mut window.from, &mut window.to][field] = value;
+            }
         }
     }
 
-    /// The values that it may have in these records, and the ground where it has another; none for an operand of node 0 and for w.
+    /// The values that it may have in these records, and the ground where it has another; none for an operand of node 0, for w and for the id of a
+    /// window.
     fn range(self, records: &Records) -> (Option<Range>, u64) {
         let ids = (0, records.nodes.len() as u32 - 1);
         match self {
@@ -134,8 +154,18 @@ impl Number {
             Number::Operands(v) => (Some(fields(records.nodes[v].kind, records.top).operands), 3),
             Number::Operand(v, _) => (v.checked_sub(1).map(|most| (0, most as u32)), 4),
             Number::End(..) => (Some(ids), 3),
-            Number::Weight(_) => (None, 3),
+            Number::Weight(_) | Number::Window(_, 0) => (None, 3),
+            Number::Period => (Some(P), 3),
+            Number::Windows => (Some((0, records.nodes.len() as u32)), 3),
+            Number::Window(_, 1) => (Some(window_from(records.period)), 3),
+            Number::Window(i, _) => (Some(window_to(records.windows[i].from, records.period)), 3),
         }
+    }
+
+    /// Whether a window may have an id: that of a box, above that of the window before.
+    fn may_stand(records: &Records, window: usize, id: u32) -> bool {
+        let above = window == 0 || id > records.windows[window - 1].id;
+        above && records.nodes.get(id as usize).is_some_and(|node| node.kind == 2)
     }
 
     /// Values that it may not have: next to its range, next to what has a spelling, such as are right in their low bits, and the greatest.
@@ -150,8 +180,12 @@ impl Number {
             values.extend([beyond, -beyond, 2 * beyond, -2 * beyond, i32::MAX, i32::MIN, i32::MIN + 1].map(|w| w as u32));
             values.extend([14, 16, 17, 21, 24].map(|bit| right.wrapping_sub(1 << bit)));
         }
+        if let Number::Window(..) = self {
+            values.extend(0..=records.nodes.len() as u32);
+        }
         values.retain(|&value| match (self, range) {
             (Number::Weight(_), _) => (value as i32).unsigned_abs() > W,
+            (Number::Window(i, 0), _) => !Number::may_stand(records, i, value),
             (_, Some((low, high))) => value < low || value > high,
             (_, None) => true,
         });
@@ -159,7 +193,7 @@ impl Number {
     }
 }
 
-/// The most nodes, differences or operands of a node that are given here.
+/// The most nodes, differences, windows or operands of a node that are given here.
 const MANY: u32 = 3_000;
 
 /// Any value: near the right one, small, about the size of two bytes, of any with a spelling, of w, right but for one bit, or any at all.
@@ -187,19 +221,21 @@ fn change(random: &mut Random, records: &mut Records) {
 
 #[test]
 fn made_up_records() {
-    // How many have an H of one, two and three bytes, and how many a w.
-    let (mut horizons, mut weights) = ([0; 3], [0; 3]);
+    // How many have an H of one, two and three bytes, and how many a w; and how many have no window, one, and more.
+    let (mut horizons, mut weights, mut windows) = ([0; 3], [0; 3], [0; 3]);
     let met = compare_all(SEED, 4000, |random, round| {
         let most = if round % 20 == 0 { 256 } else { 12 };
         let sheet = sheet(random, most);
         horizons[width(sheet.horizon) - 1] += 1;
         let has = |bytes: usize| sheet.differences.iter().any(|d| width(code(d.weight)) == bytes);
         (1..=3).for_each(|bytes| weights[bytes - 1] += u32::from(has(bytes)));
+        windows[sheet.windows.len().min(2)] += 1;
         Rows::from(&Records::from(&sheet))
     });
     assert_eq!(met, [3 * 4000, 0, 0, 0, 0, 0, 0, 0, 3 * 4000]);
-    println!("by bytes: H {horizons:?}, w {weights:?}");
+    println!("by bytes: H {horizons:?}, w {weights:?}; by windows: {windows:?}");
     assert!(horizons.iter().chain(&weights).all(|&count| count > 1000), "{horizons:?} {weights:?}");
+    assert!(windows.iter().all(|&count| count > 300), "{windows:?}");
 }
 
 #[test]
@@ -241,14 +277,17 @@ fn every_number_made_wrong() {
         }
     }
     for (nodes, step) in [(130, 23), (256, 41)] {
-        let mut records = Records::from(&greatest(&mut random));
+        let mut records = Records::from(&greatest_with(&mut random, |random| (random.within(0, 30), random.within(31, 64))));
         records.nodes.truncate(nodes);
         records.differences = vec![Difference { from: 0, to: nodes as u32 - 1, weight: -1 }; M.1 as usize];
-        // The header, the last node, the first and the last difference, and some between them.
+        records.windows.retain(|window| (window.id as usize) < nodes);
+        // The header, the last node, the first and the last difference, P, the first and the last window, and some between them.
         let all = all_numbers(&records);
-        let first_difference = all.len() - 3 * records.differences.len();
+        let period = all.len() - 2 - 3 * records.windows.len();
+        let first_difference = period - 3 * records.differences.len();
         let last_node = first_difference - 6 - records.nodes[nodes - 1].operands.len();
-        let always = |index: usize| index < 5 || (last_node..first_difference + 3).contains(&index) || index + 3 >= all.len();
+        let ends = [last_node..first_difference + 3, period - 3..period + 5, all.len() - 3..all.len()];
+        let always = |index: usize| index < 5 || ends.iter().any(|range| range.contains(&index));
         for (index, &number) in all.iter().enumerate().filter(|&(index, _)| always(index) || index % step == 0) {
             every_wrong_value(&records, index, number, &mut met);
         }
@@ -261,7 +300,7 @@ fn every_number_made_wrong() {
 fn the_first_q_is_number_9() {
     let answer = |kind: u32, latency: u32, clock_to_q: u32, operands: usize| {
         let node = Node { kind, output: 0, delay: kind & 1, latency, clock_to_q, operands: vec![0; operands] };
-        let records = Records { leaves: K.0, top: 4, horizon: H.0, nodes: vec![node], differences: Vec::new() };
+        let records = Records { leaves: K.0, top: 4, horizon: H.0, nodes: vec![node], ..Records::default() };
         compare_in(&Rows::from(&records), 100)
     };
     for q in [1, 4, 5, 64, 65, 127, 128, NUMBER, NUMBER + 1, u32::MAX] {
@@ -270,7 +309,7 @@ fn the_first_q_is_number_9() {
             assert_eq!(answer(kind, 0, q, operands), (3, 9), "q = {q} on kind {kind}");
         }
         for latency in [1, 2, 127, 128, 255] {
-            let length = 11 + u64::from(latency > 127);
+            let length = 13 + u64::from(latency > 127);
             assert_eq!(answer(2, latency, q, 0), if q > 4 { (3, 9) } else { (0, length) }, "q = {q} with lat = {latency}");
             assert_eq!(answer(2, latency, q, 7), if q > 4 { (3, 9) } else { (3, 10) }, "q = {q} with lat = {latency}");
         }
@@ -280,13 +319,63 @@ fn the_first_q_is_number_9() {
     assert_eq!(answer(2, 0, 0, 1), (4, 11));
 }
 
+/// Two boxes and an input, a difference, and these windows: P is number 26, the count number 27, and the windows begin at number 28.
+fn two_boxes(period: u32, triples: &[(u32, u32, u32)]) -> (u64, u64) {
+    let [input, slow] = [made::input(), made::boxed(0, 0, 0, &[])].map(|node| Node::from(&node));
+    let nodes = vec![slow.clone(), input, slow];
+    let differences = vec![Difference { from: 0, to: 2, weight: 1 }];
+    let records = Records { nodes, differences, period, windows: windows(triples), ..Records::default() };
+    assert_eq!(all_numbers(&records).len(), 28 + 3 * triples.len());
+    compare_in(&Rows::from(&records), 100)
+}
+
+#[test]
+fn places_of_the_windows() {
+    // 28 numbers of one byte, and three more for each window.
+    assert_eq!(two_boxes(1, &[]), (0, 28));
+    assert_eq!(two_boxes(64, &[]), (0, 28));
+    assert_eq!(two_boxes(8, &[(2, 2, 4)]), (0, 31));
+    assert_eq!(two_boxes(8, &[(0, 0, 8), (2, 7, 8)]), (0, 34));
+    // P, also without windows, and before the count.
+    for period in [0, 65, 127, 128, NUMBER, NUMBER + 1, u32::MAX] {
+        for triples in [&[][..], &[(2, 0, 1)], &[(9, 9, 0); 4]] {
+            assert_eq!(two_boxes(period, triples), (3, 26), "P = {period}");
+        }
+    }
+    // As many windows as nodes are not too many, which is seen at the third, that is no box; one more is.
+    assert_eq!(two_boxes(8, &[(0, 0, 1), (2, 0, 1), (3, 0, 1)]), (3, 34));
+    for count in [4, 5, 256, 65_536, 65_539] {
+        assert_eq!(two_boxes(8, &vec![(9, 9, 0); count]), (3, 27), "{count} windows");
+    }
+    // The id, whatever from and to are: no box, no node, not above the one before.
+    for (from, to) in [(0, 8), (2, 2), (8, 9), (u32::MAX, u32::MAX)] {
+        for id in [1, 3, 4, 255, 256, 258, 65_538, u32::MAX] {
+            assert_eq!(two_boxes(8, &[(id, from, to)]), (3, 28), "id {id}");
+            assert_eq!(two_boxes(8, &[(0, 7, 8), (id, from, to)]), (3, 31), "id {id}");
+        }
+        for (first, second) in [(0, 0), (2, 2), (2, 0)] {
+            assert_eq!(two_boxes(8, &[(first, 0, 1), (second, from, to)]), (3, 31), "{first} and {second}");
+        }
+    }
+    // Then from, whatever to is; then to.
+    for from in [8, 9, 64, 255, 256, 258, u32::MAX] {
+        for to in [0, 8, 9, u32::MAX] {
+            assert_eq!(two_boxes(8, &[(2, from, to)]), (3, 29), "from {from}");
+        }
+    }
+    for (from, to) in [(0, 0), (2, 0), (2, 1), (2, 2), (7, 7), (0, 9), (7, 9), (0, 255), (0, 256), (2, 259), (0, u32::MAX)] {
+        assert_eq!(two_boxes(8, &[(2, from, to)]), (3, 30), "from {from} to {to}");
+        assert_eq!(two_boxes(8, &[(0, 7, 8), (2, from, to)]), (3, 33), "from {from} to {to}");
+    }
+}
+
 #[test]
 fn operands_of_node_0_are_refused() {
     for kind in [1, 2] {
         for id in [0, 1, NUMBER, u32::MAX] {
             for count in 1..=6 {
                 let node = Node { kind, output: 0, delay: 1, latency: 0, clock_to_q: 0, operands: vec![id; count] };
-                let records = Records { leaves: K.0, top: T.0, horizon: H.0, nodes: vec![node], differences: Vec::new() };
+                let records = Records { leaves: K.0, top: T.0, horizon: H.0, nodes: vec![node], ..Records::default() };
                 assert_eq!(compare_in(&Rows::from(&records), 100), (4, 11));
             }
         }
@@ -324,7 +413,7 @@ fn more_than_a_sheet_holds() {
     let difference = Difference { from: 0, to: 0, weight: 0 };
     let records = |n: usize, operands: usize, m: usize| {
         let nodes = (0..n).map(|own| node(if own == 1 { operands } else { 0 })).collect();
-        Rows::from(&Records { leaves: K.0, top: T.0, horizon: H.0, nodes, differences: vec![difference.clone(); m] })
+        Rows::from(&Records { leaves: K.0, top: T.0, horizon: H.0, nodes, differences: vec![difference.clone(); m], ..Records::default() })
     };
     let (most, many) = (N.1 as usize, M.1 as usize);
     assert_eq!(compare_in(&records(most, 6, many), 10 * AMPLE).0, 0);
@@ -370,7 +459,11 @@ fn any_ends(random: &mut Random) -> Rows {
     let mut differences: Vec<u32> = (0..random.within(0, 2)).flat_map(|_| [random.within(0, n - 1), 0, random.within(0, 3)]).collect();
     nodes.extend((0..random.within(0, 5)).map(|_| random.within(0, 9)));
     differences.extend((0..random.within(0, 2)).map(|_| random.within(0, 9)));
-    Rows { leaves: 2, top: 1, horizon: random.within(0, 200), nodes, operands, differences }
+    // Windows of boxes, seldom of another node, with or without an incomplete row.
+    let period = random.within(1, 3);
+    let mut windows: Vec<u32> = (2..n).filter(|_| random.once_in(3)).flat_map(|id| [id, 0, period]).collect();
+    windows.extend((0..random.within(0, 2)).map(|_| random.within(0, 9)));
+    Rows { leaves: 2, top: 1, horizon: random.within(0, 200), nodes, operands, differences, period, windows }
 }
 
 #[test]
@@ -393,13 +486,14 @@ fn rows_of_any_numbers() {
         let any = |random: &mut Random, most: u32| -> Vec<u32> {
             (0..random.within(0, most)).map(|_| if random.once_in(20) { random.next() as u32 } else { random.within(0, 9) / 7 }).collect()
         };
-        let (nodes, operands, differences) = (any(random, 24), any(random, 8), any(random, 9));
-        Rows { leaves: random.within(2, 6), top: random.within(1, 3), horizon: random.within(0, 300), nodes, operands, differences }
+        let (nodes, operands, differences, windows) = (any(random, 24), any(random, 8), any(random, 9), any(random, 5));
+        let (leaves, top, horizon, period) = (random.within(2, 6), random.within(1, 3), random.within(0, 300), random.within(1, 3));
+        Rows { leaves, top, horizon, nodes, operands, differences, period, windows }
     });
     assert!([0, 3, 4, 8].iter().all(|&number| met[number] > 400), "{met:?}");
 }
 
-/// The rows of a sheet as the library read it; the header and how many nodes and differences there are come from the independent reader.
+/// The rows of a sheet as the library read it; the header, P and how many nodes and differences there are come from the independent reader.
 fn rows_of(tables: &Tables, sheet: &Sheet) -> Rows {
     let (mut nodes, mut operands) = (Vec::new(), Vec::new());
     for row in tables.graph.chunks(16).take(sheet.nodes.len()) {
@@ -409,7 +503,10 @@ fn rows_of(tables: &Tables, sheet: &Sheet) -> Rows {
     }
     let differences = tables.differences.chunks(4).take(sheet.differences.len()).flat_map(|row| [row[0], row[1], row[2].wrapping_sub(row[3])]);
     let differences = differences.collect();
-    Rows { leaves: sheet.leaves, top: sheet.top, horizon: sheet.horizon, nodes, operands, differences }
+    // A node without a window has 0 as its `to`.
+    let windows = (0..).zip(tables.graph.chunks(16)).filter(|(_, row)| row[13] > 0).flat_map(|(id, row)| [id, row[12], row[13]]).collect();
+    let Sheet { leaves, top, horizon, period, .. } = *sheet;
+    Rows { leaves, top, horizon, nodes, operands, differences, period, windows }
 }
 
 /// What was written reads back to the records, by both readers; a sheet that reads is written again byte for byte from what each of them read. True
@@ -436,22 +533,25 @@ fn there_and_back(bytes: &[u8]) -> bool {
 fn sheets_there_and_back() {
     println!("seed {}", SEED + 6);
     let mut random = Random::new(SEED + 6);
-    for round in 0..8000 {
-        let sheet = match round % 8 {
+    for round in 0..10000 {
+        let sheet = match round % 10 {
+            8 => slots(&mut random, 12, H.1),
+            9 => drift(&mut random, 1 + round as u32 % 100, H.1),
             0 => stairs(&mut random),
             1 => ring(&mut random, 11, true),
             2 => small(&mut random, &Size { nodes: 12, top: 64, horizon: H.1, latency: 255, wide: false }),
             3 => small(&mut random, &Size { nodes: 9, top: 3, horizon: 40, latency: 30, wide: true }),
             4 => long(&mut random),
             5 => memories(&mut random, 11, 64, H.1),
-            _ => sheet(&mut random, if round % 80 == 6 { 256 } else { 12 }),
+            _ => sheet(&mut random, if round % 100 == 6 { 256 } else { 12 }),
         };
         assert!(there_and_back(&spelled(&made::numbers(&sheet))), "{sheet:?} reads");
     }
     for round in 0..40 {
         let w = |i: u32| (255 - i % 256, i % 256, (i * 2 * W / (M.1 - 1)) as i32 - W as i32);
         let chain = chain(round as u32, [4_095, H.1][round % 2]);
-        for sheet in [made::large(&mut random, round), greatest(&mut random), variant(&mut random, 127 + round as u32, w), chain] {
+        let windowed = greatest_with(&mut random, |random| (random.within(0, 63), 64));
+        for sheet in [made::large(&mut random, round), greatest(&mut random), windowed, variant(&mut random, 127 + round as u32, w), chain] {
             assert!(there_and_back(&spelled(&made::numbers(&sheet))), "{sheet:?} reads");
         }
     }
@@ -466,8 +566,12 @@ fn damaged_sheets_there_and_back() {
     println!("seed {}", SEED + 7);
     let mut random = Random::new(SEED + 7);
     let mut met = [0, 0];
-    for round in 0..30000 {
-        let whole = if round % 2 == 0 { sheet(&mut random, 8) } else { stairs(&mut random) };
+    for round in 0..45000 {
+        let whole = match round % 3 {
+            0 => sheet(&mut random, 8),
+            1 => slots(&mut random, 6, 40),
+            _ => stairs(&mut random),
+        };
         met[usize::from(there_and_back(&damaged(&mut random, &whole)))] += 1;
     }
     println!("refused and read: {met:?}");
@@ -479,7 +583,7 @@ fn every_weight_and_every_horizon() {
     let mut tables = Tables::filled_with(0);
     for w in -(W as i32)..=W as i32 {
         let differences = vec![Difference { from: 1, to: 0, weight: w }];
-        let sheet = Sheet { leaves: K.0, top: T.0, horizon: w.unsigned_abs(), nodes: vec![made::input(); 2], differences };
+        let sheet = Sheet { leaves: K.0, top: T.0, horizon: w.unsigned_abs(), nodes: vec![made::input(); 2], differences, ..Sheet::default() };
         let (answer, written) = lent(40, |buffer| write(&Rows::from(&Records::from(&sheet)), buffer));
         let bytes = &written[..answer.place as usize];
         assert_eq!((answer.number, reader::read(bytes)), (0, Ok(sheet)), "w = {w}");
@@ -517,8 +621,8 @@ fn lengths_at_each_count_of_bytes() {
     for (horizon, horizon_bytes) in horizons {
         for (weight, weight_bytes) in weights {
             let nodes = vec![Node::from(&made::input())];
-            let records = Records { leaves: 2, top: 1, horizon, nodes, differences: vec![Difference { from: 0, to: 0, weight }] };
-            let bytes = [&[2, 1], horizon_bytes, &[1, 1, 0, 0, 0, 0, 0, 0, 0, 0], weight_bytes].concat();
+            let records = Records { leaves: 2, top: 1, horizon, nodes, differences: vec![Difference { from: 0, to: 0, weight }], ..Records::default() };
+            let bytes = [&[2, 1], horizon_bytes, &[1, 1, 0, 0, 0, 0, 0, 0, 0, 0], weight_bytes, &[1, 0]].concat();
             let length = bytes.len();
             let rows = Rows::from(&records);
             let (answer, written) = lent(length, |buffer| write(&rows, buffer));
@@ -540,7 +644,9 @@ fn the_header_says_what_no_sheet_exceeds() {
     let operands = (0..=KIND.1).map(|kind| fields(kind, T.1).operands.1).max().unwrap();
     let node = fixed + width(operands) + operands as usize * width(N.1 - 2);
     let difference = 2 * width(N.1 - 1) + width(CODE.1);
-    assert_eq!(defined("MAPS_SHEET_MOST"), (head + N.1 as usize * node + M.1 as usize * difference) as u64);
+    let window = width(N.1 - 1) + width(P.1 - 1) + width(P.1);
+    let most = head + N.1 as usize * node + M.1 as usize * difference + width(P.1) + width(N.1) + N.1 as usize * window;
+    assert_eq!(defined("MAPS_SHEET_MOST"), most as u64);
     // The longest: boxes, which read the node before them as often as they may.
     let nodes = (0..N.1).map(|own| {
         let operands = if own == 0 { Vec::new() } else { vec![own - 1; operands as usize] };
@@ -548,11 +654,12 @@ fn the_header_says_what_no_sheet_exceeds() {
     });
     let nodes = nodes.collect();
     let differences = vec![Difference { from: N.1 - 1, to: N.1 - 2, weight: W as i32 }; M.1 as usize];
-    let rows = Rows::from(&Records { leaves: K.1, top: T.1, horizon: H.1, nodes, differences });
-    // Node 0 has no operands, and those of 128 more nodes have one byte.
-    let shorter = 2 * u64::from(operands) + 128 * u64::from(operands);
+    let windows = (0..N.1).map(|id| Window { id, from: P.1 - 1, to: P.1 }).collect();
+    let rows = Rows::from(&Records { leaves: K.1, top: T.1, horizon: H.1, nodes, differences, period: P.1, windows });
+    // Node 0 has no operands, those of 128 more nodes have one byte, and so have the ids of 128 windows.
+    let shorter = 2 * u64::from(operands) + 128 * u64::from(operands) + 128;
     let length = defined("MAPS_SHEET_MOST") - shorter;
-    assert_eq!(length, 11_261);
+    assert_eq!(length, 12_160);
     for (room, number) in [(defined("MAPS_SHEET_MOST"), 0), (length, 0), (length - 1, 8), (0, 8)] {
         assert_eq!(compare_in(&rows, room as usize), (number, length));
     }

@@ -32,7 +32,7 @@ fn sheet(random: &mut Random, inputs: u32, reach: u32) -> Sheet {
             Node { kind: 1, output: own > 250, delay: 1, latency: 0, clock_to_q: 0, operands }
         })
         .collect();
-    Sheet { leaves: 6, top: 8, horizon: 100, nodes, differences: Vec::new() }
+    Sheet { leaves: 6, top: 8, horizon: 100, nodes, ..Sheet::default() }
 }
 
 fn main() {

@@ -1,8 +1,9 @@
-//! Times the planning call on sheets of 16 to 256 nodes of several kinds, and on the same sheets at three horizons, or, where files are named, on
-//! the sheets in them. With the feature `before` another version of the library stands beside it, with `sketch` the unproved sketch.
+//! Times the planning call on sheets of 16 to 256 nodes of several kinds, on the same sheets at three horizons and on rings through windows at two, or,
+//! where files are named, on the sheets in them. With the feature `before` another version of the library stands beside it, with `sketch` the unproved
+//! sketch.
 #![cfg_attr(not(planner), allow(dead_code, unused_mut))]
 use maps_tests::limits::{H, W};
-use maps_tests::made::{numbers, spelled};
+use maps_tests::made::{drift, missed, numbers, shuffled, spelled, windowed, windows};
 use maps_tests::random::Random;
 use maps_tests::reader::{read, Difference, Node, Sheet};
 use std::time::Instant;
@@ -58,7 +59,7 @@ fn table(random: &mut Random, own: u32, count: u32, reach: u32, delay: u32) -> N
 /// A sheet with six inputs below the nodes that `node` makes, K = 6 and H = 4,095.
 fn sheet(n: u32, top: u32, mut node: impl FnMut(u32) -> Node) -> Sheet {
     let nodes = (0..n).map(|own| if own < 6 { input() } else { node(own) }).collect();
-    Sheet { leaves: 6, top, horizon: 4095, nodes, differences: Vec::new() }
+    Sheet { leaves: 6, top, horizon: 4095, nodes, ..Sheet::default() }
 }
 
 /// Wide logic with many paths that meet again.
@@ -105,6 +106,12 @@ fn late_boxes(random: &mut Random, n: u32) -> Sheet {
     let mut sheet = boxes(random, n);
     sheet.nodes.iter_mut().filter(|node| node.latency > 0).for_each(|node| node.clock_to_q = random.within(0, 8));
     sheet
+}
+
+/// The same where boxes have windows, some of them or all.
+fn slots(random: &mut Random, n: u32) -> Sheet {
+    let sheet = late_boxes(random, n);
+    windowed(random, sheet)
 }
 
 /// Differences that point to higher ids, four for a node.
@@ -188,6 +195,30 @@ fn rising(random: &mut Random, n: u32) -> Sheet {
     sheet
 }
 
+/// A ring of boxes in any order that drifts through two windows, which never fit together.
+fn missing(random: &mut Random, n: u32) -> Sheet {
+    let period = random.within(2, 64);
+    missed(&shuffled(random, n), period, 0)
+}
+
+/// The same by levels: with T = 1 boxes and tables in turn are each a step after the one below, and a difference leads back as many steps. The first
+/// two boxes are two steps apart, and both start at the beginning of a period.
+fn missing_by_levels(random: &mut Random, n: u32) -> Sheet {
+    let mut sheet = rising(random, n);
+    sheet.differences[0].weight -= 1;
+    (sheet.period, sheet.windows) = (random.within(3, 64), windows(&[(7, 0, 1), (9, 0, 1)]));
+    sheet
+}
+
+/// A ring of boxes that all have windows. It drifts, and half of these rings have room for their windows to fit together.
+fn drifting(random: &mut Random, n: u32) -> Sheet {
+    let mut sheet = drift(random, n, 0);
+    if random.once_in(2) {
+        sheet.differences.last_mut().expect("the difference back").weight -= (n * sheet.period) as i32;
+    }
+    sheet
+}
+
 /// The sheet with every w so many times as great. What is legal stays legal with every step as many times as late.
 fn stretched(mut sheet: Sheet, factor: i32) -> Sheet {
     sheet.differences.iter_mut().for_each(|difference| difference.weight *= factor);
@@ -239,7 +270,7 @@ fn rows(forms: &[(String, Vec<Vec<u8>>)]) {
     let all: Vec<Vec<(f64, u64)>> = (0..forms[0].1.len()).map(|sheet| times(&trials(sheet))).collect();
     let mean = |i: usize| all.iter().map(|t| t[i].0).sum::<f64>() / all.len() as f64;
     for (own, (name, _)) in (0..).step_by(calls.len()).zip(forms) {
-        print!("{name:<36}");
+        print!("{name:<48}");
         for number in [0, 6, 7, 12] {
             print!("{:>4} ", all.iter().filter(|t| t[own].1 == number).count());
         }
@@ -254,11 +285,15 @@ fn rows(forms: &[(String, Vec<Vec<u8>>)]) {
     }
 }
 
-/// The lines of sheets at three horizons: one that few keep, one of two bytes and the greatest.
-fn horizon_rows(name: &str, sheets: &[Sheet]) {
+/// The lines of sheets at several horizons.
+fn horizon_rows(name: &str, sheets: &[Sheet], horizons: &[u32]) {
     let at = |horizon| sheets.iter().map(|sheet| spelled(&numbers(&Sheet { horizon, ..sheet.clone() }))).collect();
-    rows(&[1, 4_095, H.1].map(|horizon| (format!("{name}, H = {horizon}"), at(horizon))));
+    let forms: Vec<(String, Vec<Vec<u8>>)> = horizons.iter().map(|&horizon| (format!("{name}, H = {horizon}"), at(horizon))).collect();
+    rows(&forms);
 }
+
+/// Three horizons: one that few sheets keep, one of two bytes and the greatest.
+const HORIZONS: [u32; 3] = [1, 4_095, H.1];
 
 /// A sheet of `tests/sheets`.
 fn stored(name: &str) -> Sheet {
@@ -279,13 +314,14 @@ fn main() {
     if !files.is_empty() {
         return;
     }
-    println!("{:<36}{:>4} {:>4} {:>4} {:>4}{:>13} {:>9} {:>9}", "sheets", "0", "6", "7", "12", "", "mean", "worst");
-    let kinds: [(&str, Maker); 9] = [
+    println!("{:<48}{:>4} {:>4} {:>4} {:>4}{:>13} {:>9} {:>9}", "sheets", "0", "6", "7", "12", "", "mean", "worst");
+    let kinds: [(&str, Maker); 10] = [
         ("wide logic", wide),
         ("wide rules", rules),
         ("deep chains", deep),
         ("boxes with latency", boxes),
         ("boxes with latency and q", late_boxes),
+        ("boxes with windows", slots),
         ("differences forward", forward),
         ("differences backward", backward),
         ("rings that hold", holding),
@@ -316,10 +352,21 @@ fn main() {
         ("rings by levels", rising),
     ];
     for (name, make) in kinds {
-        horizon_rows(name, &sheets_of(make, 256));
+        horizon_rows(name, &sheets_of(make, 256), &HORIZONS);
     }
     // The first is late at the first horizon and accepted at the others, the other two are never legal.
     for name in ["rises", "zigzag", "costly-cuts"] {
-        horizon_rows(name, &[stored(name)]);
+        horizon_rows(name, &[stored(name)], &HORIZONS);
+    }
+    println!("\nRings through windows at two horizons; the last column is the ratio to the mean at H = {}.", H.1);
+    // The first two are late at both, for their windows alone; of the others some are accepted.
+    let kinds: [(&str, Maker, u32); 4] = [
+        ("rings that miss, 256 nodes", missing, 256),
+        ("rings by levels that miss, 64 nodes", missing_by_levels, 64),
+        ("rings that drift, 16 nodes", drifting, 16),
+        ("rings that drift, 256 nodes", drifting, 256),
+    ];
+    for (name, make, n) in kinds {
+        horizon_rows(name, &sheets_of(make, n), &[100, H.1]);
     }
 }
