@@ -8,11 +8,12 @@ use Rattle.customer.proofs.storing.store_sheet.Tie as tie
 returns : tie.Need-returns
 returns c =
     let call = c .before .before in
-    let a = call .before .before .before .before .before .before .args in
-    let R = recordsIn (a .leaves) (a .top) (a .horizon) (a .nodes .now) (a .operands .now) (a .differences .now) in
-    let is = call .maps-write-rows .ensures in (
-      stores R (a .buffer .now) (call .maps-write-rows .result .number) (call .maps-write-rows .result .place) (call .maps-write-rows .last .1 .1 .1 .1 .1 .1 .0) is,
-      store-bounded R (a .buffer .now) (call .maps-write-rows .result .number) (call .maps-write-rows .result .place) (call .maps-write-rows .last .1 .1 .1 .1 .1 .1 .0) is,
+    let a = call .before .before .before .before .before .before .before .args in
+    let R = recordsIn (a .leaves) (a .top) (a .horizon) (a .nodes .now) (a .operands .now) (a .differences .now) (a .period) (a .windows .now) in
+    let w = call .maps-write-rows in
+    let after = w .last .1 .1 .1 .1 .1 .1 .1 .1 .0 in (
+      stores R (a .buffer .now) (w .result .number) (w .result .place) after (w .ensures),
+      store-bounded R (a .buffer .now) (w .result .number) (w .result .place) after (w .ensures),
     )
 
 pub store-sheet-spec : {M : Type 1} → statement M
