@@ -5,12 +5,14 @@ use mathlib.Core.Bool.{Bool, true, false, cond}
 use mathlib.Core.List.{List}
 use mathlib.Core.Logic.{_⊎_, inl, inr}
 use native.Mathlib.Omega.{arith}
+use native.Mathlib.Nat.{mod-lt}
 use lib.Dec.{leb}
 use borrow.Author.Tests.{eq-eqb, ne-eqb}
 use Rattle.maps.specs.Label.{Label, label, leq, later, plus, ready, _≼_}
 use Rattle.maps.specs.Sheet.{Window}
-use Rattle.maps.specs.Window.{nextOpen, openLabel}
+use Rattle.maps.specs.Window.{between, nextOpen, openLabel}
 use Rattle.maps.proofs.Order.{≼-refl, ≼-trans, leq-true, ≼-leq, leq-decides, later-is, later-left, later-right, ready-step}
+use Rattle.maps.proofs.Windows.{code-here}
 use Rattle.maps.proofs.Over.{last-or}
 use Rattle.maps.proofs.Fix.{label-path}
 use Rattle.types.specs.Code.{fitted}
@@ -48,7 +50,12 @@ arrival-small graph steps levels top delay u soon =
       ready-step (latencyIn graph u) (clockIn graph u) (labelIn steps levels u),
     )
 
--- a label in an open step, and one in a closed step
+-- a label where every step is open, one in an open step, and one in a closed step
+pub open-whole : (p f t d : ℕ) (a : Label) → 0 < p → f ≡ 0 → t ≡ p → a ≡ openLabel p (between 0 f t) d a
+open-whole p f t d a l e h =
+    let n = code-here p 0 f t (a .step) (omega arith) (omega (arith, mod-lt (a .step) l)) in
+    sym (rw (eq-eqb (nextOpen p (between 0 f t) (a .step)) (a .step) (sym n)))
+
 pub open-kept : (p : ℕ) (w : Window) (d n : ℕ) (a : Label) → n ≡ nextOpen p w (a .step) → n ≡ a .step → a ≡ openLabel p w d a
 open-kept p w d n a e h = sym (rw (eq-eqb (nextOpen p w (a .step)) (a .step) (sym e ∙ h)))
 

@@ -1,10 +1,10 @@
 -- What the tables and the limits of a well-formed sheet keep within, and its labels too while each node ends within the horizon.
 use Prim.Native.Nat.{ℕ, _≤_, _<_}
-use mathlib.Core.Path.{_≡_, ap}
-use mathlib.Core.List.{List, List·Memᴰ}
+use mathlib.Core.Path.{_≡_, refl, sym, ap, _∙_}
+use mathlib.Core.List.{List, [], _∷_, List·Memᴰ}
 use native.Mathlib.Omega.{arith}
 use lib.ListN.{length, getD}
-use Rattle.maps.specs.Sheet.{Sheet, node, size, latency, clockToQ}
+use Rattle.maps.specs.Sheet.{Sheet, Window, node, size, latency, clockToQ}
 use Rattle.maps.specs.WellFormed.{WellDifference}
 use Rattle.maps.proofs.Member.{All-get, index-mem}
 use Rattle.rows.specs.Table.{latencyIn, clockIn, delayIn, toIn, noDifference, differenceAt, Falling}
@@ -33,6 +33,17 @@ module _ {S : Sheet} {graph differences : List ℕ} {limits : R.Header} (g : Giv
 
   pub delay-is : (v : ℕ) → v < limits .nodes → delayIn graph v ≡ node S v .delay
   delay-is v l = g .tabled .delays v (node-in v l .1)
+
+  -- whether there are entries, by their count
+  pub no-entries : limits .windows ≡ 0 → S .windows ≡ []
+  no-entries e = go (S .windows) (sym (g .windows) ∙ e)
+    where
+      go : (ws : List Window) → length ws ≡ 0 → ws ≡ []
+      go [] q = refl
+      go (w ∷ ws) q = absurd (omega arith)
+
+  pub some-entries : 0 < limits .windows → S .windows ≡ [] → ⊥
+  some-entries l e = omega (arith, g .windows, ap (λ (ws : List Window). length ws) e)
 
   pub graph-falls : Falling graph
   graph-falls = falling S graph (g .well) (g .tabled)

@@ -5,7 +5,7 @@ ghost use lib.ListN.{getD, set, replicate};
 ghost use Rattle.maps.specs.Label.{earliest};
 ghost use Rattle.maps.specs.Window.{between, openLabel};
 ghost use Rattle.types.specs.Code.{labelOf};
-ghost use Rattle.rows.specs.Table.{delayIn, latencyIn, countIn, openIn, closing, Falling};
+ghost use Rattle.rows.specs.Table.{delayIn, latencyIn, countIn, openIn, closing, WholeIn, Falling};
 ghost use Rattle.bound.specs.Lookup.{labelIn, arrivalIn, Soon};
 ghost use Rattle.bound.specs.Bound.{Carrying, Latest, LabelPlaced};
 use rows::Graph;
@@ -127,12 +127,16 @@ pub fn arrival(
     ready.plus(delay, top)
 }
 
-// The label a of node v, or level d of the next open step where that of a is closed.
-pub fn open_label(graph: &Graph, v: u32, period: u32, a: Label) -> Label
+// The label a of node v, or level d of the next open step where that of a is closed. There are `windows` windows: where there is none, every step is open.
+pub fn open_label(graph: &Graph, v: u32, period: u32, a: Label, windows: u32) -> Label
     requires { ⌜ v < 256 ⌝ }
     requires { ⌜ (0 < period) × (a .step .0 + period + openIn (now graph) v ≤ 4294967295) ⌝ }
+    requires { ⌜ (windows ≡ 0 → WholeIn (now graph) period v) ⌝ }
     ensures { λ r. ⌜ labelOf r ≡ openLabel period (between 0 (openIn (now (graph .entry)) v) (closing (now (graph .entry)) period v)) (delayIn (now (graph .entry)) v) (labelOf a) ⌝ }
 {
+    if windows == 0 {
+        return a;
+    }
     let window = window_in(graph, v, period);
     let own = a.step;
     let step = own.next_open(period, window.from, window.to);

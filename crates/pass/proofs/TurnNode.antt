@@ -10,14 +10,14 @@ use lib.ListN.{length, getD}
 use borrow.Author.Tests.{eqb-true, eqb-false}
 use Rattle.maps.specs.Label.{Label, _≼_}
 use Rattle.maps.specs.Lists.{All}
-use Rattle.maps.specs.Sheet.{Sheet, Kind, input, logic, box, node, size, window, isLogic}
+use Rattle.maps.specs.Sheet.{Sheet, Kind, input, logic, box, Window, whole, windowIn, node, size, window, isLogic}
 use Rattle.maps.specs.Window.{between, openLabel}
 use Rattle.maps.specs.Cut.{logicNode}
 use Rattle.maps.specs.WellFormed.{WellFormed}
 use Rattle.maps.proofs.Member.{All-of, All-ids, All-get}
 use Rattle.maps.proofs.Planned.{delays, operands-below, windows}
 use Rattle.maps.proofs.Windows.{next-fields}
-use Rattle.rows.specs.Table.{kindAt, delayIn, countIn, operandIn, openIn, closing}
+use Rattle.rows.specs.Table.{kindAt, delayIn, countIn, operandIn, openIn, closing, WholeIn}
 use Rattle.rows.specs.declared.Header as R
 use Rattle.rows.proofs.Tables.{kind-tabled}
 use Rattle.relax.specs.Guard.{Forced}
@@ -29,7 +29,7 @@ use Rattle.relax.proofs.Passes.{base-forced, base-level, base-step, settles-ope
 use Rattle.bound.specs.Lookup.{labelIn, arrivalIn, Beside, stepLimit}
 use Rattle.bound.specs.Bound.{Latest}
 use Rattle.bound.specs.Going.{Given, Keeps, AllKept, Going, Based}
-use Rattle.bound.proofs.Safety.{node-in, latency-is, clock-is, delay-is, graph-falls, soon-all}
+use Rattle.bound.proofs.Safety.{node-in, latency-is, clock-is, delay-is, no-entries, graph-falls, soon-all}
 use Rattle.bound.proofs.Arriving.{arrival-small}
 use Rattle.level.specs.Carry.{Placed}
 use Rattle.level.proofs.CutRows.{count-beside, leaf-beside}
@@ -130,6 +130,13 @@ module _ {S : Sheet} {graph differences : List ℕ} {limits : R.Header} {first n
               ap (λ (c : Label). c .step) (w .2),
               arrival-small graph steps levels (limits .top) (delayIn graph v) (operandIn graph v (w .0)) (soon-all g (going .timed) (operandIn graph v (w .0)) (omega arith)),
             )
+
+    -- without entries every window is whole
+    pub whole-window : limits .windows ≡ 0 → WholeIn graph (limits .period) v
+    whole-window e =
+        let t = node-in g v l .1 in
+        let w : window S v ≡ whole (S .period) v = ap (windowIn (S .period) v) (no-entries g e) in
+        (g .tabled .opens v t ∙ ap (λ (x : Window). x .from) w, rw (g .period) (g .tabled .closes v t ∙ ap (λ (x : Window). x .to) w))
 
     -- the window in the table is the node's
     opened-is : (r : Label) → openLabel (limits .period) (between 0 (openIn graph v) (closing graph (limits .period) v)) (delayIn graph v) r

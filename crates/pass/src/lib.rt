@@ -57,7 +57,7 @@ pub fn node_label(
         Kind::Input => base,
         Kind::Box { .. } => {
             let latest = latest_arrival(graph, steps, levels, v, Level(limits.top), base);
-            open_label(graph, v, limits.period, latest)
+            open_label(graph, v, limits.period, latest, limits.windows)
         }
     }
 }

@@ -166,6 +166,10 @@ boxesIn g v = leb 2 (kindIn g v)
 abbrev pub closing : (g : List ℕ) → (period v : ℕ) → ℕ
 closing g p v = cond (eqb (closeIn g v) 0) p (closeIn g v)
 
+-- the window of v is the whole period
+abbrev pub WholeIn : (g : List ℕ) → (period v : ℕ) → Type 0
+WholeIn g p v = (openIn g v ≡ 0) × (closing g p v ≡ p)
+
 -- the table g holds the nodes of S: at every id below 256 the node's numbers, and 0 where the sheet has no node
 pub record Tabled (S : Sheet) (g : List ℕ) : Type 0 where
   pub wide : length g ≡ nodesWide

@@ -25,6 +25,11 @@ pub record Far (limits far : R.Header) : Type 0 where
   pub period : far .period ≡ limits .period
   pub windows : far .windows ≡ limits .windows
 
+-- where labels are sought: without entries within the farthest horizon, with entries within the sheet's own
+pub record Searched (limits within : R.Header) : Type 0 where
+  pub far : limits .windows ≡ 0 → Far limits within
+  pub own : (limits .windows ≡ 0 → ⊥) → within ≡ limits
+
 -- Without entries: never, there are no least labels; late, L has them, and one is past H; in time, L has them, and none is. With entries: late, there are
 -- none within H; in time, L has them.
 pub data Times (S : Sheet) (H : ℕ) (L : List Label) : Timing → Type 0 where

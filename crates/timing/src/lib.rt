@@ -1,15 +1,17 @@
 // When the least labels are ready: the labels of any horizon against the sheet's own, and their latency.
 ghost use mathlib.Core.Path.{_≡_};
+ghost use mathlib.Core.Bool.{true};
 ghost use mathlib.Core.List.{List, []};
 ghost use Prim.Native.Nat.{ℕ, _<_, _≤_};
 ghost use Rattle.maps.specs.Sheet.{Sheet, size};
 ghost use Rattle.maps.specs.Legal.{planLatency};
-ghost use Rattle.maps.specs.Least.{at, inTime};
+ghost use Rattle.maps.specs.Least.{at, inTime, late, least, leastEver};
 ghost use Rattle.maps.specs.Outcome.{cutless};
 ghost use Rattle.rows.specs.Table.{Tabled};
+ghost use Rattle.rows.specs.Cells.{Ends};
 ghost use Rattle.bound.specs.Lookup.{labelsIn, Soon};
 ghost use Rattle.bound.specs.Going.{Given, AllKept};
-ghost use Rattle.timing.specs.Timing.{Far, Times, outputStep};
+ghost use Rattle.timing.specs.Timing.{Far, Searched, Times, outputStep};
 use bound::Levels;
 use bound::Steps;
 use bound::ready_step;
@@ -63,23 +65,25 @@ pub fn in_time(graph: &Graph, steps: &Steps, n: u32, horizon: u32) -> bool
     true
 }
 
-// Writes the least legal labels of any horizon, unless there are none; whether they are within the horizon of the limits. There are no entries, and
-// `kept` has a fitting cut of each logic node.
-pub fn time_ever(
-    graph: &Graph,
-    differences: &Differences,
-    limits: Header,
-    kept: &mut Cuts,
-    steps: &mut Steps,
-    levels: &mut Levels,
-) -> Timing
-    requires { ⌜ ((S : Sheet) × Given S (now graph) (now differences) limits × AllKept S (now kept) × (cutless S ≡ [])) ⌝ }
-    requires { ⌜ limits .windows ≡ 0 ⌝ }
-    ensures { λ r. ⌜ ((S : Sheet) → Given S (now (graph .entry)) (now (differences .entry)) limits → AllKept S (now (kept .entry)) → cutless S ≡ []
-        → Times S (limits .horizon) (labelsIn (limits .nodes) (now (steps .exit)) (now (levels .exit))) r) ⌝ }
+// The limits within which labels are sought: as they are where there are entries, otherwise with a horizon that no least label passes.
+pub fn search_limits(limits: Header) -> Header
+    ensures { λ r. ⌜ Searched limits r ⌝ }
 {
-    let far = far_limits(limits);
-    if !least_labels(graph, differences, far, kept, steps, levels) {
+    if limits.windows == 0 {
+        return far_limits(limits);
+    }
+    limits
+}
+
+// What the least labels of any horizon come to, where they are found or there are none, for a sheet without entries.
+pub fn time_ever(graph: &Graph, steps: &Steps, limits: Header, found: bool) -> Timing
+    requires { ⌜ limits .nodes ≤ 256 ⌝ }
+    requires { ⌜ (found ≡ true → (u : ℕ) → u < limits .nodes → Soon (now graph) (now steps) u) ⌝ }
+    ensures { λ r. ⌜ ((S : Sheet) (levels : List ℕ) → Tabled S (now (graph .entry)) → limits .nodes ≡ size S → S .windows ≡ []
+        → Ends found (leastEver S ≡ least (labelsIn (limits .nodes) (now (steps .entry)) levels)) (leastEver S ≡ late)
+        → Times S (limits .horizon) (labelsIn (limits .nodes) (now (steps .entry)) levels) r) ⌝ }
+{
+    if !found {
         return Timing::Never;
     }
     if !in_time(graph, steps, limits.nodes, limits.horizon) {
@@ -102,10 +106,12 @@ pub fn time_labels(
     ensures { λ r. ⌜ ((S : Sheet) → Given S (now (graph .entry)) (now (differences .entry)) limits → AllKept S (now (kept .entry)) → cutless S ≡ []
         → Times S (limits .horizon) (labelsIn (limits .nodes) (now (steps .exit)) (now (levels .exit))) r) ⌝ }
 {
+    let within = search_limits(limits);
+    let found = least_labels(graph, differences, within, kept, steps, levels);
     if limits.windows == 0 {
-        return time_ever(graph, differences, limits, kept, steps, levels);
+        return time_ever(graph, steps, limits, found);
     }
-    if least_labels(graph, differences, limits, kept, steps, levels) {
+    if found {
         return Timing::InTime;
     }
     Timing::Late

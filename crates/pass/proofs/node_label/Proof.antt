@@ -3,7 +3,7 @@ use mathlib.Core.Path.{ap, _∙_}
 use native.Mathlib.Omega.{arith}
 use Rattle.types.specs.Code.{kindMeant}
 use Rattle.bound.proofs.Safety.{node-in, graph-falls, soon-all, bounding}
-use Rattle.pass.proofs.TurnNode.{kept-beside, kind-is, placed, based-level, settles-base, latest-room, settles-latest}
+use Rattle.pass.proofs.TurnNode.{kept-beside, kind-is, placed, based-level, settles-base, latest-room, whole-window, settles-latest}
 use borrow.Author.Needs.{needs}
 use Rattle.pass.proofs.node_label.Statement.{statement}
 use Rattle.pass.proofs.node_label.Tie as tie
@@ -43,7 +43,8 @@ open-label-requires c κs =
     let going = s .pre .0 .1 in
     let l = s .pre .1 in
     let v = s .args .v in
-    (node-in (going .given) v l .1, latest-room going v l (s .pre .0 .2) (b .base-label .ensures S (bounding going v l)) (c .latest-arrival .ensures))
+    let based = b .base-label .ensures S (bounding going v l) in
+    (node-in (going .given) v l .1, (latest-room going v l (s .pre .0 .2) based (c .latest-arrival .ensures), whole-window going v l (s .pre .0 .2) based))
 
 returns : tie.Need-returns
 returns c S going p l =
