@@ -23,6 +23,7 @@ use rows::Graph;
 use rows::Header;
 use types::Refusal;
 use window_read::count_at;
+use window_read::period_at;
 
 // What reading the header gives.
 pub enum HeaderRead {
@@ -99,7 +100,7 @@ pub fn fill_cycle(sheet: &[u8], c: Cursor, header: Header, graph: &mut Graph) ->
     requires { ⌜ (0 < header .nodes) × (header .nodes ≤ sizeRange .high) ⌝ }
     ensures { λ r. ⌜ ((d : List ℕ) → tables (answerMeant r) (now (graph .exit)) d ≡ cycleInto (now (sheet .entry)) (headerMeant header) (c .at) (now (graph .entry)) d) ⌝ }
 {
-    let period_read = field_at(sheet, c, Field::Period);
+    let period_read = period_at(sheet, c);
     let Number::Value {
         value: period,
         next: c1,

@@ -1,4 +1,4 @@
-// The windows of a sheet, read at a cursor: how many entries there are, and an entry's box, from and to.
+// The windows of a sheet, read at a cursor: the period, how many entries there are, and an entry's box, from and to.
 ghost use mathlib.Core.Path.{_≡_};
 ghost use Prim.Native.Nat.{_≤_, _<_};
 ghost use lib.ListN.{length};
@@ -31,6 +31,14 @@ pub struct Entry {
 pub enum WindowRead {
     Value(Entry, Cursor),
     Refused(Refusal),
+}
+
+// The period.
+pub fn period_at(sheet: &[u8], c: Cursor) -> Number
+    ensures { λ r. ⌜ numberMeant r ≡ inRange periodRange (now (sheet .entry)) (c .at) ⌝ }
+{
+    let periods = range_of(Field::Period);
+    field_in(sheet, c, periods)
 }
 
 // The count of the entries of a sheet of n nodes.

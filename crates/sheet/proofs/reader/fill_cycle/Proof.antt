@@ -17,7 +17,7 @@ use Rattle.sheet.proofs.reader.fill_cycle.Tie as tie
 period : (p : tie.After-period-read)
     → inRange periodRange (p .before .before .before .before .args .sheet .now) (p .before .before .before .before .args .c .at)
     ≡ got (p .period-read .given .0 .0) (p .period-read .given .0 .1 .0 .at)
-period p = sym (p .before .before .field-at .ensures) ∙ ap numberMeant (p .period-read .given .1)
+period p = sym (p .before .before .period-at .ensures) ∙ ap numberMeant (p .period-read .given .1)
 
 -- the count that was read, and the period before it
 abbrev before-count : tie.After-count-at → tie.After-period-read
@@ -40,7 +40,7 @@ read-windows-requires c κs =
 returns : tie.Need-returns
 returns c d =
     let f = c .before .before .before in
-    no-period _ _ _ _ _ (sym (f .field-at .ensures) ∙ ap numberMeant (c .refusal-of .ensures))
+    no-period _ _ _ _ _ (sym (f .period-at .ensures) ∙ ap numberMeant (c .refusal-of .ensures))
 
 returns-2 : tie.Need-returns-2
 returns-2 c d =
