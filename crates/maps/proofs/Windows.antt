@@ -102,21 +102,18 @@ module _ (p : ℕ) (w : Window) (a : Label) where
   opened-from = later-left a _
 
   pub opened-step : WellWindow p w → opened p w a .step ≡ nextOpen p w (a .step)
-  opened-step ok = go (later-is a (label (nextOpen p w (a .step)) 0))
+  opened-step ok = go _ refl (later-is a _)
     where
-      n : Label
-      n = label (nextOpen p w (a .step)) 0
-
-      go : ((later a n ≡ n) × (a ≼ n)) ⊎ ((later a n ≡ a) × (n ≼ a)) → later a n .step ≡ nextOpen p w (a .step)
-      go (inl h) = ap (λ (c : Label). c .step) (h .0)
-      go (inr h) = omega (arith, ap (λ (c : Label). c .step) (h .0), h .1 .steps, next-from p w ok (a .step))
+      go : (n : Label) → n .step ≡ nextOpen p w (a .step) → ((later a n ≡ n) × (a ≼ n)) ⊎ ((later a n ≡ a) × (n ≼ a)) → later a n .step ≡ nextOpen p w (a .step)
+      go n e (inl h) = ap (λ (c : Label). c .step) (h .0) ∙ e
+      go n e (inr h) = omega (arith, ap (λ (c : Label). c .step) (h .0), h .1 .steps, e, next-from p w ok (a .step))
 
   pub opened-open : WellWindow p w → Open p w (opened p w a .step)
   opened-open ok = subst (Open p w) (sym (opened-step ok)) (next-open p w ok (a .step))
 
   pub opened-least : WellWindow p w → (b : Label) → a ≼ b → Open p w (b .step) → opened p w a ≼ b
   opened-least ok b h o =
-      later-case (λ c. c ≼ b) a (label (nextOpen p w (a .step)) 0) h
+      later-case (λ c. c ≼ b) a _ h
       (record { steps = next-least p w ok (a .step) (b .step) (h .steps) o; levels = λ e. omega arith })
 
 -- every node's window is one, where the entries are
