@@ -10,10 +10,9 @@ use lib.Seq.{getD-set-same, getD-set-other}
 use borrow.Author.Tests.{eqb-true, eqb-false}
 use Rattle.maps.specs.Label.{Label, label}
 use Rattle.maps.specs.Sheet.{Sheet, size, latency}
-use Rattle.maps.specs.Legal.{NoneLegal}
 use Rattle.maps.proofs.Fix.{label-path}
 use Rattle.rows.specs.declared.Header as R
-use Rattle.relax.specs.Guard.{Guarded, Forced, Raised}
+use Rattle.relax.specs.Guard.{NoneFrom, Guarded, Forced, Raised}
 use Rattle.relax.proofs.Guard.{legal-node, legal-diffs, guarded-under}
 use Rattle.bound.specs.Lookup.{labelIn}
 use Rattle.bound.specs.Bound.{endIn}
@@ -32,10 +31,10 @@ raised-tables S steps levels v s l p q =
 module _ {S : Sheet} {graph differences : List ℕ} {limits : R.Header} (g : Given S graph differences limits) (steps levels : List ℕ)
     (v : ℕ) (l : v < limits .nodes) (b : Label) where
   -- a forced label past the horizon
-  pub forced-late : Guarded S (labelIn steps levels) → Forced S (labelIn steps levels) v b → limits .horizon < endIn graph v (b .step) → NoneLegal S (limits .horizon)
-  forced-late guarded f h M legal =
+  pub forced-late : {bound : ℕ → ℕ} → Guarded S bound (labelIn steps levels) → Forced S (labelIn steps levels) v b → limits .horizon < endIn graph v (b .step) → NoneFrom S bound (limits .horizon)
+  forced-late {bound} guarded f h M legal from =
       let inside = node-in g v l .0 in
-      let up = f .forced M (guarded-under S (labelIn steps levels) guarded M (limits .horizon) legal) (legal-node S M legal v inside) (legal-diffs S M legal v) in
+      let up = f .forced M (guarded-under S bound (labelIn steps levels) guarded M (limits .horizon) legal from) (legal-node S M legal v inside) (legal-diffs S M legal v) in
       omega (arith, up .steps, legal .nodes v inside .ends, latency-is g v l)
 
   -- one within it

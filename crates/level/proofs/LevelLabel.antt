@@ -42,8 +42,8 @@ next-forced S L v s r l f =
     past b h m false e = absurd (omega (arith, h .levels (ltb-false s (b .step) e)))
 
 -- s and low are the step and the level of v's base label, and r is the level at which the span from low on closes
-module _ {S : Sheet} {graph steps levels kept more : List ℕ} {v : ℕ} {limits : R.Header} {s low r : ℕ} (placed : Placed S graph v limits)
-    (levelled : Levelled graph steps levels kept more v limits s low r) (keeps : Keeps S kept v) (p : Pass S (labelIn steps levels) v)
+module _ {S : Sheet} {graph steps levels kept more : List ℕ} {v : ℕ} {limits : R.Header} {s low r : ℕ} {bound : ℕ → ℕ} (placed : Placed S graph v limits)
+    (levelled : Levelled graph steps levels kept more v limits s low r) (keeps : Keeps S kept v) (p : Pass S bound (labelIn steps levels) v)
     (based : Based S (labelIn steps levels) v (label s low)) where
   same-step : s ≡ based .step
   same-step =

@@ -241,7 +241,7 @@ pub fn table_label(
     requires { ⌜ ((u : ℕ) → u < v → Soon (now graph) (now steps) u) ⌝ }
     requires { ⌜ length (now kept) ≡ 2048 ⌝ }
     requires { ⌜ base .level .0 ≤ limits .top ⌝ }
-    ensures { λ r. ⌜ ((S : Sheet) → Placed S (now (graph .entry)) v limits → Keeps S (now (kept .entry)) v → Pass S (labelIn (now (steps .entry)) (now (levels .entry))) v → Based S (labelIn (now (steps .entry)) (now (levels .entry))) v (labelOf base)
+    ensures { λ r. ⌜ ((S : Sheet) (bound : ℕ → ℕ) → Placed S (now (graph .entry)) v limits → Keeps S (now (kept .entry)) v → Pass S bound (labelIn (now (steps .entry)) (now (levels .entry))) v → Based S (labelIn (now (steps .entry)) (now (levels .entry))) v (labelOf base)
         → Settles S (labelIn (now (steps .entry)) (now (levels .entry))) v (labelOf r) × Keeps S (now (kept .exit)) v) ⌝ }
     ensures { λ r. ⌜ Beside v (now (kept .entry)) (now (kept .exit)) ⌝ }
     ensures { λ r. ⌜ length (now (kept .exit)) ≡ 2048 ⌝ }

@@ -1,4 +1,3 @@
-pub mod Meet
 pub mod ReadyBounds
 pub mod Horizons
 pub mod Entries

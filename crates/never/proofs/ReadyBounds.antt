@@ -14,12 +14,13 @@ use Rattle.maps.specs.Legal.{Least}
 use Rattle.maps.specs.Least.{greatestWeight, readyBound}
 use Rattle.maps.proofs.Member.{below-in, below-out, greatest-from, greatest-most}
 use Rattle.relax.proofs.Closed.{Closed, latency-most}
-use Rattle.relax.proofs.Guard.{legal-node}
+use Rattle.relax.specs.Guard.{unbounded}
+use Rattle.relax.proofs.Guard.{legal-node, plain-least}
 use Rattle.relax.proofs.Forced.{ok-after}
 use Rattle.relax.proofs.Afloat.{shift-one, floats-never}
 use Rattle.relax.specs.Hold.{Held}
 use Rattle.relax.proofs.Held.{Climb, well-climb, held-set, grown-held, held-bound}
-use Rattle.never.proofs.Meet.{least-guarded}
+use Rattle.relax.proofs.Meet.{least-guarded}
 
 -- no operand and no difference asks for more than `greatestWeight`, which is the least such number
 weight-climbs : (S : Sheet) → Climb S 1 (greatestWeight S)
@@ -73,7 +74,7 @@ module _ (S : Sheet) (closed : Closed S) (free : S .windows ≡ []) (G : ℕ) (L
       go true e = grown-held S 1 L closed held (held-set S closed 1 L .1) v l e
       go false e =
           absurd (floats-never S closed 1 (shift-one S closed free) L (λ w k. ok-after S L w (legal-node S L (h .legal) w k)) held (held-set S closed 1 L .2)
-          (least-guarded S closed G L h) v l e L G (h .legal))
+          (least-guarded S closed unbounded G L (plain-least S G L h)) v l e L G (h .legal))
 
   ends : (v : ℕ) → v < size S → L v .step + latency S v ≤ readyBound S
   unfolding readyBound

@@ -78,7 +78,7 @@ module _ {S : Sheet} {graph differences : List ℕ} {limits : R.Header} {first n
         tops = g .top;
       }
 
-  module _ (p : Pass S (labelIn steps levels) v) {a : Label} (based : Based S (labelIn steps levels) v a) where
+  module _ {bound : ℕ → ℕ} (p : Pass S bound (labelIn steps levels) v) {a : Label} (based : Based S (labelIn steps levels) v a) where
     pub based-level : a .level ≤ limits .top
     based-level =
         omega (
@@ -149,7 +149,7 @@ module _ {S : Sheet} {graph differences : List ℕ} {limits : R.Header} {first n
     pub settles-latest : {r : Label} (lat q : ℕ) → node S v .kind ≡ box lat q → Latest graph steps levels v (limits .top) (countIn graph v) a r
         → Settles S (labelIn steps levels) v (openLabel (limits .period) (between 0 (openIn graph v) (closing graph (limits .period) v)) (delayIn graph v) r)
     settles-latest {r} lat q e latest =
-        let b = bound (latest .one) in
+        let b = within (latest .one) in
         subst (Settles S (labelIn steps levels) v) (sym (opened-is r))
         (settles-open S closed (delays S (g .well)) (labelIn steps levels) v inside p (based .step) (based .asks) r
         (subst (λ (c : Label). c ≼ r) (based .base) (latest .from)) (b .0) (b .1) (b .2) (subst (By S (labelIn steps levels) v r) (sym e) all))
@@ -166,9 +166,9 @@ module _ {S : Sheet} {graph differences : List ℕ} {limits : R.Header} {first n
         operand-in j k =
             All-get (λ u. List·Memᴰ u (node S v .operands)) 0 (node S v .operands) (All-of _ (node S v .operands) (λ u m. m)) j k
 
-        bound : (r ≡ a) ⊎ ((j : ℕ) × (j < countIn graph v) × (r ≡ arrivalIn graph steps levels (limits .top) (delayIn graph v) (operandIn graph v j))) → Bound r
-        bound (inl w) = subst Bound (sym w) own
-        bound (inr w) =
+        within : (r ≡ a) ⊎ ((j : ℕ) × (j < countIn graph v) × (r ≡ arrivalIn graph steps levels (limits .top) (delayIn graph v) (operandIn graph v j))) → Bound r
+        within (inl w) = subst Bound (sym w) own
+        within (inr w) =
             let j = w .0 in
             let k : j < length (node S v .operands) = omega (arith, w .1, counted) in
             let u = getD (node S v .operands) j 0 in

@@ -19,9 +19,9 @@ use Rattle.pass.specs.Turn.{Turned}
 module _ {S : Sheet} {graph differences : List ℕ} {limits : R.Header} {first next kept steps levels : List ℕ}
     (going : Going S graph differences limits first next kept steps levels) (v : ℕ) (l : v < limits .nodes) (b : Label) where
   -- the label that settles v, placed
-  pub turn-ends : {more : List ℕ} (steps′ levels′ : List ℕ) → Pass S (labelIn steps levels) v → Settles S (labelIn steps levels) v b → AllKept S more
+  pub turn-ends : {more : List ℕ} {bound : ℕ → ℕ} (steps′ levels′ : List ℕ) → Pass S bound (labelIn steps levels) v → Settles S (labelIn steps levels) v b → AllKept S more
       → (r : Bool) → LabelPlaced graph steps levels steps′ levels′ v b (limits .horizon) r
-      → Turned S graph differences limits first next more steps levels steps′ levels′ v r
+      → Turned S bound graph differences limits first next more steps levels steps′ levels′ v r
   turn-ends {more} steps′ levels′ p s all true h = (
     subst (λ (x : List ℕ). Going S graph differences limits first next more x levels′) (sym (h .1))
         (subst (λ (y : List ℕ). Going S graph differences limits first next more (set steps v (b .step)) y) (sym (h .2)) placed),

@@ -48,7 +48,7 @@ pub fn node_label(
     requires { ⌜ Underway (now graph) (now differences) limits (now first) (now next) (now kept) (now steps) (now levels) v ⌝ }
     requires { ⌜ v < limits .nodes ⌝ }
     ensures { λ r. ⌜ Onward (now (graph .entry)) (now (differences .entry)) limits (now (first .entry)) (now (next .entry)) (now (kept .entry)) (now (steps .entry)) (now (levels .entry)) v
-        (λ S. v < limits .nodes → SettledNode S (now (kept .exit)) (now (steps .entry)) (now (levels .entry)) v (labelOf r)) ⌝ }
+        (λ S bound. v < limits .nodes → SettledNode S (now (kept .exit)) (now (steps .entry)) (now (levels .entry)) v (labelOf r)) ⌝ }
 {
     let base = base_label(graph, differences, limits, first, next, steps, levels, v);
     let kind = kind_in(graph, v);
@@ -77,7 +77,7 @@ pub fn settle(
     requires { ⌜ Underway (now graph) (now differences) limits (now first) (now next) (now kept) (now steps) (now levels) v ⌝ }
     requires { ⌜ v < limits .nodes ⌝ }
     ensures { λ r. ⌜ Onward (now (graph .entry)) (now (differences .entry)) limits (now (first .entry)) (now (next .entry)) (now (kept .entry)) (now (steps .entry)) (now (levels .entry)) v
-        (λ S. v < limits .nodes → Turned S (now (graph .entry)) (now (differences .entry)) limits (now (first .entry)) (now (next .entry)) (now (kept .exit)) (now (steps .entry)) (now (levels .entry)) (now (steps .exit)) (now (levels .exit)) v r) ⌝ }
+        (λ S bound. v < limits .nodes → Turned S bound (now (graph .entry)) (now (differences .entry)) limits (now (first .entry)) (now (next .entry)) (now (kept .exit)) (now (steps .entry)) (now (levels .entry)) (now (steps .exit)) (now (levels .exit)) v r) ⌝ }
 {
     let a = node_label(
         graph,
@@ -127,7 +127,7 @@ pub fn pass(
 ) -> Course
     requires { ⌜ Underway (now graph) (now differences) limits (now first) (now next) (now kept) (now steps) (now levels) 0 ⌝ }
     ensures { λ r. ⌜ Onward (now (graph .entry)) (now (differences .entry)) limits (now (first .entry)) (now (next .entry)) (now (kept .entry)) (now (steps .entry)) (now (levels .entry)) 0
-        (λ S. Passed S (now (graph .entry)) (now (differences .entry)) limits (now (first .entry)) (now (next .entry)) (now (kept .exit)) (now (steps .entry)) (now (levels .entry)) (now (steps .exit)) (now (levels .exit)) whole r) ⌝ }
+        (λ S bound. Passed S bound (now (graph .entry)) (now (differences .entry)) limits (now (first .entry)) (now (next .entry)) (now (kept .exit)) (now (steps .entry)) (now (levels .entry)) (now (steps .exit)) (now (levels .exit)) whole r) ⌝ }
 {
     let mut v: u32 = 0;
     while v < limits.nodes {

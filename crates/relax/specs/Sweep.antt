@@ -17,7 +17,7 @@ pub record Pushes (S : Sheet) (heeded : ℕ → Type 0) (L : ℕ → Label) (v :
 
 -- nodes n - 1, .. k pushed in turn, from L: labels only rise, and from k on every heeded node is late enough for what the differences into it
 -- asked of L
-pub record Sweeping (S : Sheet) (heeded : ℕ → Type 0) (L : ℕ → Label) (k : ℕ) (R : ℕ → Label) : Type 0 where
-  pub pass : Pass S R 0
+pub record Sweeping (S : Sheet) (bound : ℕ → ℕ) (heeded : ℕ → Type 0) (L : ℕ → Label) (k : ℕ) (R : ℕ → Label) : Type 0 where
+  pub pass : Pass S bound R 0
   pub grows : (u : ℕ) → u < size S → L u ≼ R u
   pub heeds : (d : Difference) → List·Memᴰ d (S .differences) → heeded (d .to) → k ≤ d .to → L (d .from) .step + d .plus ≤ R (d .to) .step + d .minus

@@ -3,49 +3,45 @@ use Prim.Native.Nat.{ℕ, zero, suc, _+_, _-_, _*_, _≤_, _<_}
 use mathlib.Core.Path.{_≡_, refl, sym, subst, ap, _∙_}
 use mathlib.Core.Bool.{Bool, true, false}
 use mathlib.Core.List.{List, [], _∷_}
-use native.Mathlib.Nat.{not-suc-le-zero}
+use mathlib.Core.Logic.{inl, inr}
 use native.Mathlib.Omega.{arith}
-use native.Mathlib.Decide.{ℕ-discrete}
 use lib.Dec.{leb}
-use lib.ListN.{length, getD, set, replicate, length-set, length-replicate}
-use lib.Seq.{getD-set-same, getD-set-other}
-use borrow.Author.Count.{below-more}
+use lib.ListN.{length, getD}
 use borrow.Author.Tests.{leb-true, leb-false}
-use Rattle.maps.specs.Limits.{periodRange}
+use Rattle.maps.specs.Limits.{horizonRange, periodRange}
 use Rattle.maps.specs.Label.{Label, label, _≼_}
-use Rattle.maps.specs.Lists.{All, below}
+use Rattle.maps.specs.Lists.{All}
 use Rattle.maps.specs.WellFormed.{WellDifference}
 use Rattle.maps.specs.Sheet.{Sheet, Difference, Window, node, size, latency}
 use Rattle.maps.specs.Cut.{reads}
 use Rattle.maps.specs.Legal.{Least, NoneLegal}
 use Rattle.maps.specs.Least.{at, leastWithin, late, least}
 use Rattle.maps.specs.Outcome.{cutless}
-use Rattle.maps.proofs.Over.{total, total-mono, total-longer, length-over, getD-over}
-use Rattle.maps.proofs.Member.{zeros-at, All-at, All-ids, All-get, mem-in, mem-out, index-mem}
-use Rattle.maps.proofs.Fix.{label-path, is-least, is-late}
-use Rattle.maps.proofs.Planned.{delays, operands-below, least-right}
-use Rattle.rows.specs.Table.{delayIn, latencyIn, operandIn, fromIn, toIn, plusIn, minusIn, noDifference, differenceAt}
+use Rattle.maps.proofs.Over.{total, total-bound, total-mono, total-longer, length-over, getD-over}
+use Rattle.maps.proofs.Member.{All-at, All-ids, All-get, mem-in, mem-out, index-mem}
+use Rattle.maps.proofs.Fix.{is-least, is-late}
+use Rattle.maps.proofs.Planned.{operands-below, least-right}
+use Rattle.rows.specs.Table.{latencyIn, operandIn, fromIn, toIn, plusIn, minusIn, noDifference, differenceAt}
 use Rattle.rows.specs.declared.Header as R
 use Rattle.rows.specs.Cells.{Ends}
-use Rattle.rows.proofs.Cells.{filled-more}
-use Rattle.relax.specs.Guard.{Kept}
+use Rattle.relax.specs.Guard.{Kept, unbounded, NoneFrom, LeastFrom}
 use Rattle.relax.specs.Settle.{Pass, Passing}
 use Rattle.relax.specs.Sweep.{Sweeping}
 use Rattle.relax.specs.Hold as H
 use Rattle.relax.specs.Hold.{shiftOf, Held, early, by-operand, by-difference}
 use Rattle.relax.proofs.Closed.{Closed, well-closed, inside}
-use Rattle.relax.proofs.Guard.{legal-node, legal-diffs, ok-legal}
+use Rattle.relax.proofs.Guard.{legal-node, legal-diffs, ok-legal, none-plain, least-plain}
 use Rattle.relax.proofs.Forced.{ok-same}
 use Rattle.relax.proofs.Held.{climbs, well-climbs, held-sum}
 use Rattle.relax.proofs.Afloat.{shift-of}
-use Rattle.relax.proofs.Passes.{pass-start, pass-again, pass-least, pass-floats, stepsOf}
+use Rattle.relax.proofs.Passes.{pass-again, pass-least, pass-floats, stepsOf}
 use Rattle.relax.proofs.Loop.{passing-pass, passing-grows}
 use Rattle.relax.proofs.Sweeps.{sweep-moves}
 use Rattle.bound.specs.Lookup.{labelIn, labelsIn, Linked, Heeded}
 use Rattle.bound.specs.Bound.{HoldsAt}
-use Rattle.bound.specs.Going.{Given, AllKept, Timed, Going}
-use Rattle.bound.proofs.Asking.{linked-heeding, linked-heeded}
-use Rattle.bound.proofs.Safety.{node-in, latency-is, delay-is, graph-falls, difference-in, targets, kept-at, holds-at}
+use Rattle.bound.specs.Going.{Given, Timed, Going}
+use Rattle.bound.proofs.Asking.{linked-heeded}
+use Rattle.bound.proofs.Safety.{node-in, latency-is, graph-falls, difference-in, targets, kept-at, holds-at}
 use Rattle.hold.specs.Mark.{HeldIn, early-in, operand-in, target-in}
 use Rattle.hold.proofs.HoldMarks.{not-both}
 use Rattle.pass.specs.Turn.{Passed}
@@ -53,34 +49,7 @@ use Rattle.pass.specs.declared.Course.{Course}
 use Rattle.schedule.specs.declared.labels.Turn.{Turn}
 use Rattle.schedule.specs.declared.labels.Turn.the-variants as Is
 use Rattle.sweep.specs.Sweep.{AllHold, SomeFails, Sweepable, SweepEnds}
-use Rattle.schedule.specs.Round.{First, TurnEnds, was-late, was-stopped, was-last, goes-on, Heeds, Relaxed, stepsIn, shiftFor, shiftIn, climbMost, climbsIn, heldMost, roundsMost}
-
--- the first labels, one node after the other: none yet, and one more
-pub first-none : {graph steps levels : List ℕ} {horizon : ℕ} → steps ≡ replicate 256 0 → levels ≡ replicate 256 0 → First graph steps levels 0 horizon
-first-none e f =
-    record {
-      steps-wide = ap length e ∙ length-replicate {A = ℕ} 256 0;
-      levels-wide = ap length f ∙ length-replicate {A = ℕ} 256 0;
-      steps-zero = λ v. ap (λ (l : List ℕ). getD l v 0) e ∙ zeros-at 256 v;
-      levels-delay = λ v h. absurd (not-suc-le-zero h);
-      ends = λ v h. absurd (not-suc-le-zero h);
-    }
-
-pub first-more : {graph steps levels steps′ levels′ : List ℕ} {horizon : ℕ} (v s d : ℕ) → v < 256 → First graph steps levels v horizon → latencyIn graph v ≤ horizon
-    → s ≡ 0 → d ≡ delayIn graph v → steps′ ≡ set steps v s → levels′ ≡ set levels v d → First graph steps′ levels′ (v + 1) horizon
-first-more {graph} {steps} {levels} v s d low g ends z delay e f =
-    record {
-      steps-wide = ap length e ∙ length-set steps v s ∙ g .steps-wide;
-      levels-wide = ap length f ∙ length-set levels v d ∙ g .levels-wide;
-      steps-zero = λ u. ap (λ (l : List ℕ). getD l u 0) e ∙ still u (ℕ-discrete u v);
-      levels-delay = λ u h.
-          ap (λ (l : List ℕ). getD l u 0) (f ∙ ap (set levels v) delay) ∙ filled-more (delayIn graph) levels v (omega (arith, g .levels-wide)) (g .levels-delay) u h;
-      ends = below-more _ _ (g .ends) ends;
-    }
-  where
-    still : (u : ℕ) → Dec (u ≡ v) → getD (set steps v s) u 0 ≡ 0
-    still u (yes q) = ap (λ (i : ℕ). getD (set steps v s) i 0) q ∙ getD-set-same steps v s 0 (omega (arith, g .steps-wide)) ∙ z
-    still u (no n) = getD-set-other steps v u s 0 n ∙ g .steps-zero u
+use Rattle.schedule.specs.Round.{TurnEnds, was-late, was-stopped, was-last, goes-on, Heeds, Found, Relaxed, stepsIn, shiftFor, shiftIn, climbMost, climbsIn, heldMost, noTest, roundsMost, Testable}
 
 -- the shift where there are windows
 pub shift-some : (p k : ℕ) → (k ≡ 0 → ⊥) → p ≡ shiftFor p k
@@ -137,31 +106,6 @@ module _ {S : Sheet} {graph differences : List ℕ} {limits : R.Header} (g : Giv
         total-longer (λ k. k * climbMost + (periodRange .high - 1)) (limits .nodes) 256 (omega (arith, g .nodes, g .well .size .most)),
         climbs-greatest,
       )
-
-  -- the start
-  pub first-going : {first next kept steps levels : List ℕ} → Linked differences (limits .differences) first next → AllKept S kept
-      → First graph steps levels (limits .nodes) (limits .horizon) → Going S graph differences limits first next kept steps levels
-  first-going linked kept f =
-      record {
-        given = g;
-        heeding = linked-heeding differences linked;
-        allKept = kept;
-        timed = record {
-          steps-wide = f .steps-wide;
-          levels-wide = f .levels-wide;
-          ends = λ v l.
-              let k : v < limits .nodes = omega (arith, g .nodes) in
-              omega (arith, f .steps-zero v, f .ends v k, latency-is g v k);
-        };
-      }
-
-  pub first-pass : {steps levels : List ℕ} → First graph steps levels (limits .nodes) (limits .horizon) → Pass S (labelIn steps levels) 0
-  first-pass {steps} {levels} f =
-      pass-start S (delays S (g .well)) (labelIn steps levels) (λ v l.
-      let k : v < limits .nodes = omega (arith, g .nodes) in label-path (f .steps-zero v) (f .levels-delay v k ∙ delay-is g v k))
-
-  pub first-late : (v : ℕ) → v < limits .nodes → limits .horizon < latencyIn graph v → NoneLegal S (limits .horizon)
-  first-late v l h M legal = omega (arith, legal .nodes v (node-in g v l .0) .ends, latency-is g v l)
 
   -- the held set over the tables is the sheet's
   module _ (steps levels : List ℕ) where
@@ -222,7 +166,7 @@ module _ {S : Sheet} {graph differences : List ℕ} {limits : R.Header} (g : Giv
   -- where the tests and the bounds of a round lead
   module _ (steps levels : List ℕ) where
     -- after a pass a node floats
-    floats-none : Pass S (labelIn steps levels) (size S) → (v : ℕ) → v < limits .nodes → (HeldAt steps levels v → ⊥) → NoneLegal S (limits .horizon)
+    floats-none : Pass S unbounded (labelIn steps levels) (size S) → (v : ℕ) → v < limits .nodes → (HeldAt steps levels v → ⊥) → NoneLegal S (limits .horizon)
     floats-none p v l n M legal =
         pass-floats S closed (shiftOf S) (shift-of S closed) (labelIn steps levels) p v (node-in g v l .0)
         (λ h. n (in-held steps levels v (subst (λ (k : ℕ). Held S k (labelIn steps levels) v) (sym shift-is) h))) M (limits .horizon) legal
@@ -239,8 +183,18 @@ module _ {S : Sheet} {graph differences : List ℕ} {limits : R.Header} (g : Giv
           ap climbsIn (g .nodes),
         )
 
+    -- Within a sheet's own horizon the steps are no further than it allows: 256 nodes, each in step 65,535 at the most, which is less than 2^24 in all.
+    steps-near : Timed S (limits .horizon) steps levels → limits .horizon ≤ horizonRange .high → stepsIn (limits .nodes) steps + 1 < noTest
+    steps-near timed h =
+        omega (
+          arith,
+          steps-is steps levels,
+          total-bound (λ v. getD steps v 0) (horizonRange .high) (size S) (λ v l. omega (arith, timed .ends v l)),
+          g .well .size .most,
+        )
+
     -- a pass lets no step fall
-    pass-most : (steps₀ levels₀ : List ℕ) → Pass S (labelIn steps₀ levels₀) 0 → (k : ℕ) → Passing S (labelIn steps₀ levels₀) k (labelIn steps levels)
+    pass-most : {bound : ℕ → ℕ} (steps₀ levels₀ : List ℕ) → Pass S bound (labelIn steps₀ levels₀) 0 → (k : ℕ) → Passing S (labelIn steps₀ levels₀) k (labelIn steps levels)
         → stepsIn (limits .nodes) steps₀ ≤ stepsIn (limits .nodes) steps
     pass-most steps₀ levels₀ p k q =
         let b = total-mono (λ v. getD steps₀ v 0) (λ v. getD steps v 0) (size S)
@@ -248,9 +202,9 @@ module _ {S : Sheet} {graph differences : List ℕ} {limits : R.Header} (g : Giv
         omega (arith, steps-is steps₀ levels₀, steps-is steps levels)
 
     -- after a pass every difference holds
-    all-least : {first next : List ℕ} → Linked differences (limits .differences) first next → Timed S (limits .horizon) steps levels → Pass S (labelIn steps levels) (size S)
-        → AllHold differences first steps (limits .differences) → Least S (limits .horizon) (labelIn steps levels)
-    all-least {first} linked timed p h =
+    all-least : {bound : ℕ → ℕ} {first next : List ℕ} → Linked differences (limits .differences) first next → Timed S (limits .horizon) steps levels → Pass S bound (labelIn steps levels) (size S)
+        → AllHold differences first steps (limits .differences) → LeastFrom S bound (limits .horizon) (labelIn steps levels)
+    all-least {first = first} linked timed p h =
         pass-least S closed (labelIn steps levels) p (limits .horizon)
         (λ v l. record { into = λ d m e. All-at (Kept (λ u. getD steps u 0)) (S .differences) all m }) (timed .ends)
       where
@@ -269,7 +223,7 @@ module _ {S : Sheet} {graph differences : List ℕ} {limits : R.Header} (g : Giv
             let k : i < limits .differences = omega (arith, g .count) in kept-at g steps i k (each i k))
 
     -- a sweep where a heeded difference fails moves a step
-    sweep-most : (steps′ levels′ heeded : List ℕ) → Sweeping S (Heeded heeded) (labelIn steps levels) 0 (labelIn steps′ levels′)
+    sweep-most : {bound : ℕ → ℕ} (steps′ levels′ heeded : List ℕ) → Sweeping S bound (Heeded heeded) (labelIn steps levels) 0 (labelIn steps′ levels′)
         → SomeFails differences heeded steps (limits .differences) → stepsIn (limits .nodes) steps < stepsIn (limits .nodes) steps′
     sweep-most steps′ levels′ heeded w f =
         let i = f .0 in
@@ -292,7 +246,7 @@ module _ {S : Sheet} {graph differences : List ℕ} {limits : R.Header} (g : Giv
 
 -- What ends the rounds: every round but the last moves a step, in the sweep after it, and steps are bounded. So the rounds so far are no more than
 -- the sum of the steps; and at the last test, when every node was held, that sum was no more than held nodes can have. The next test comes after
--- at most twice as many rounds. So twice that sum, and two, are the most rounds, whatever the horizon.
+-- at most twice as many rounds. So twice that sum, and the round of the first test, are the most rounds, whatever the horizon.
 pub record Few (limits : R.Header) (steps rounds next : ℕ) : Type 0 where
   pub risen : rounds ≤ steps
   pub early : rounds < next
@@ -304,8 +258,8 @@ pub few-left : (limits : R.Header) (steps rounds next : ℕ) → Few limits step
     → roundsMost limits - (rounds + 1) < roundsMost limits - rounds
 few-left limits steps rounds next few = omega (arith, few .early, few .near)
 
-pub few-none : (limits : R.Header) (steps : ℕ) → Few limits steps 0 2
-few-none limits steps = record { risen = omega arith; early = omega arith; near = omega arith; fits = omega arith }
+pub few-none : (limits : R.Header) (steps due : ℕ) → 0 < due → due ≤ noTest → Few limits steps 0 due
+few-none limits steps due some most = record { risen = omega arith; early = some; near = omega arith; fits = omega arith }
 
 -- one round more: h is the sum of the steps before its pass, p after it, k after the sweep
 module _ (limits : R.Header) (h p k rounds next : ℕ) (few : Few limits h rounds next) (pass : h ≤ p) (moved : p < k) where
@@ -318,30 +272,31 @@ module _ (limits : R.Header) (h p k rounds next : ℕ) (few : Few limits h round
       record { risen = omega (arith, few .risen); early = omega arith; near = omega (arith, few .risen); fits = omega (arith, few .risen) }
 
 -- after a pass that goes on a difference fails, and the steps have not fallen; where it was whole every node keeps its other conditions
-pub record GoesOn (S : Sheet) (graph differences : List ℕ) (limits : R.Header) (first heeded next kept steps steps' levels' : List ℕ) (whole : Bool) : Type 0 where
+pub record GoesOn (S : Sheet) (bound : ℕ → ℕ) (graph differences : List ℕ) (limits : R.Header) (first heeded next kept steps steps' levels' : List ℕ) (whole : Bool) : Type 0 where
   pub going : Going S graph differences limits heeded next kept steps' levels'
-  pub pass : Pass S (labelIn steps' levels') 0
-  pub settled : whole ≡ true → Pass S (labelIn steps' levels') (size S)
+  pub pass : Pass S bound (labelIn steps' levels') 0
+  pub settled : whole ≡ true → Pass S bound (labelIn steps' levels') (size S)
   pub fails : SomeFails differences first steps' (limits .differences)
   pub grown : stepsIn (limits .nodes) steps ≤ stepsIn (limits .nodes) steps'
 
--- least: the labels are the least legal ones. late: nothing is legal within the horizon. again: they go on
-abbrev pub RoundEnds : (S : Sheet) (graph differences : List ℕ) (limits : R.Header) (first heeded next kept steps steps' levels' : List ℕ) (whole : Bool) → Turn → Type 0
-RoundEnds S graph differences limits first heeded next kept steps steps' levels' whole Is.Least = Least S (limits .horizon) (labelIn steps' levels')
-RoundEnds S graph differences limits first heeded next kept steps steps' levels' whole Is.Late = NoneLegal S (limits .horizon)
-RoundEnds S graph differences limits first heeded next kept steps steps' levels' whole Is.Again =
-    GoesOn S graph differences limits first heeded next kept steps steps' levels' whole
+-- least: the labels are found. late: nothing that heeds the bounds is legal within the horizon. again: they go on
+abbrev pub RoundEnds : (S : Sheet) (bound : ℕ → ℕ) (graph differences : List ℕ) (limits : R.Header) (first heeded next kept steps steps' levels' : List ℕ) (whole : Bool) → Turn → Type 0
+RoundEnds S bound graph differences limits first heeded next kept steps steps' levels' whole Is.Least =
+    Found S bound (limits .horizon) kept steps' levels'
+RoundEnds S bound graph differences limits first heeded next kept steps steps' levels' whole Is.Late = NoneFrom S bound (limits .horizon)
+RoundEnds S bound graph differences limits first heeded next kept steps steps' levels' whole Is.Again =
+    GoesOn S bound graph differences limits first heeded next kept steps steps' levels' whole
 
 -- what a pass says by its course and by whether the differences hold
 module _ {S : Sheet} {graph differences : List ℕ} {limits : R.Header} (g : Given S graph differences limits) {first next : List ℕ}
     (linked : Linked differences (limits .differences) first next) (heeded kept steps₀ levels₀ steps levels : List ℕ) (whole : Bool)
-    (p : Pass S (labelIn steps₀ levels₀) 0) where
-  settled : (k : ℕ) → Passing S (labelIn steps₀ levels₀) k (labelIn steps levels) → Pass S (labelIn steps levels) k
+    {bound : ℕ → ℕ} (p : Pass S bound (labelIn steps₀ levels₀) 0) where
+  settled : (k : ℕ) → Passing S (labelIn steps₀ levels₀) k (labelIn steps levels) → Pass S bound (labelIn steps levels) k
   settled k q = passing-pass S (closed g) (labelIn steps₀ levels₀) p k (labelIn steps levels) q
 
   pub round-ends : {course : Course} {turn : Turn} → TurnEnds differences first steps (limits .differences) course turn
-      → Passed S graph differences limits heeded next kept steps₀ levels₀ steps levels whole course
-      → RoundEnds S graph differences limits first heeded next kept steps₀ steps levels whole turn
+      → Passed S bound graph differences limits heeded next kept steps₀ levels₀ steps levels whole course
+      → RoundEnds S bound graph differences limits first heeded next kept steps₀ steps levels whole turn
   round-ends was-late h = h
   round-ends was-stopped h =
       let i = h .fails .0 in
@@ -353,7 +308,8 @@ module _ {S : Sheet} {graph differences : List ℕ} {limits : R.Header} (g : Giv
         fails = (i, l, record { heeded = linked-heeded differences linked i l (targets g i l); fails = h .fails .2 .fails });
         grown = pass-most g steps levels steps₀ levels₀ p (h .turns) (h .passing);
       }
-  round-ends (was-last a) h = all-least g steps levels linked (h .0 .timed) (settled (size S) (h .1)) a
+  round-ends (was-last a) h =
+      record { least = all-least g steps levels linked (h .0 .timed) (settled (size S) (h .1)) a; timed = h .0 .timed; allKept = h .0 .allKept }
   round-ends (goes-on f) h =
       record {
         going = h .0;
@@ -364,13 +320,20 @@ module _ {S : Sheet} {graph differences : List ℕ} {limits : R.Header} (g : Giv
       }
 
 -- A round that goes on: the labels after its pass, then the differences that are heeded, then the sweep.
-module _ {S : Sheet} {graph differences : List ℕ} {limits : R.Header} {first heeded₀ next kept steps₀ steps levels : List ℕ} {whole : Bool}
-    (x : GoesOn S graph differences limits first heeded₀ next kept steps₀ steps levels whole) where
-  pub round-floats : whole ≡ true → (v : ℕ) → v < limits .nodes → (HeldIn graph differences steps (shiftIn limits) (limits .nodes) (limits .differences) v → ⊥) → NoneLegal S (limits .horizon)
-  round-floats w = floats-none (x .going .given) steps levels (x .settled w)
+module _ {S : Sheet} {graph differences : List ℕ} {limits : R.Header} {first heeded₀ next kept steps₀ steps levels : List ℕ} {whole : Bool} {bound : ℕ → ℕ}
+    (x : GoesOn S bound graph differences limits first heeded₀ next kept steps₀ steps levels whole) where
+  -- A node floats. Without lower bounds nothing is legal (`floats-never`). Under bounds the test would be wrong: a floating set is refused because a legal
+  -- labelling could be moved down on it, and a bound does not move with the rest. So there the test waits, and nothing is missed by that: every
+  -- round but the last moves a step, within the sheet's own horizon fewer than 2^24 steps can be moved, and the test is not due before.
+  pub round-floats : (due₀ rounds due : ℕ) → Testable limits bound due₀ → due₀ ≤ due → rounds + 1 ≡ due → Few limits (stepsIn (limits .nodes) steps₀) rounds due
+      → whole ≡ true → (v : ℕ) → v < limits .nodes → (HeldIn graph differences steps (shiftIn limits) (limits .nodes) (limits .differences) v → ⊥) → NoneFrom S bound (limits .horizon)
+  round-floats due₀ rounds due (inl free) le e few w v l n M legal from =
+      floats-none (x .going .given) steps levels (subst (λ (b : ℕ → ℕ). Pass S b (labelIn steps levels) (size S)) free (x .settled w)) v l n M legal
+  round-floats due₀ rounds due (inr far) le e few w v l n M legal from =
+      omega (arith, far .1, few .risen, x .grown, steps-near (x .going .given) steps levels (x .going .timed) (far .0))
 
   module _ {heeded : List ℕ} {test : Bool} (y : Heeds graph differences limits next steps heeded test) where
-    pub round-sweepable : Sweepable S graph differences limits heeded next steps levels
+    pub round-sweepable : Sweepable S bound graph differences limits heeded next steps levels
     round-sweepable =
         record {
           given = x .going .given;
@@ -379,8 +342,8 @@ module _ {S : Sheet} {graph differences : List ℕ} {limits : R.Header} {first h
           pass = x .pass;
         }
 
-    module _ (steps′ levels′ : List ℕ) (z : SweepEnds S (limits .horizon) heeded steps levels steps′ levels′ true) where
-      pub round-going : Going S graph differences limits heeded next kept steps′ levels′ × Pass S (labelIn steps′ levels′) 0
+    module _ (steps′ levels′ : List ℕ) (z : SweepEnds S bound (limits .horizon) heeded steps levels steps′ levels′ true) where
+      pub round-going : Going S graph differences limits heeded next kept steps′ levels′ × Pass S bound (labelIn steps′ levels′) 0
       round-going = (record { given = x .going .given; heeding = y .heeding; allKept = x .going .allKept; timed = z .0 }, z .1 .pass)
 
       module _ (rounds due : ℕ) (few : Few limits (stepsIn (limits .nodes) steps₀) rounds due) where
@@ -429,7 +392,7 @@ module _ {S : Sheet} {graph differences : List ℕ} {limits : R.Header} (g : Giv
   pub labels-late : NoneLegal S (limits .horizon) → leastWithin S (limits .horizon) ≡ late
   labels-late h = is-late S (limits .horizon) (least-right S (g .well) cuts (limits .horizon)) h
 
-  pub labels-end : (steps levels : List ℕ) (r : Bool) → Relaxed S (limits .horizon) steps levels r
+  pub labels-end : (kept steps levels : List ℕ) (r : Bool) → Relaxed S unbounded (limits .horizon) kept steps levels r
       → Ends r (leastWithin S (limits .horizon) ≡ least (labelsIn (limits .nodes) steps levels)) (leastWithin S (limits .horizon) ≡ late)
-  labels-end steps levels true h = labels-least steps levels h
-  labels-end steps levels false h = labels-late h
+  labels-end kept steps levels true h = labels-least steps levels (least-plain S (limits .horizon) (labelIn steps levels) (h .least))
+  labels-end kept steps levels false h = labels-late (none-plain S (limits .horizon) h)

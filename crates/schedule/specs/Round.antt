@@ -3,14 +3,17 @@ use Prim.Native.Nat.{ℕ, suc, zero, _+_, _-_, _*_, _≤_, _<_}
 use mathlib.Core.Path.{_≡_}
 use mathlib.Core.Bool.{Bool, true}
 use mathlib.Core.List.{List}
+use mathlib.Core.Logic.{_⊎_}
 use lib.ListN.{length, getD}
-use Rattle.maps.specs.Limits.{periodRange, weightMost}
+use Rattle.maps.specs.Limits.{sizeRange, horizonRange, periodRange, weightMost}
 use Rattle.maps.specs.Sheet.{Sheet}
-use Rattle.maps.specs.Legal.{Least, NoneLegal}
+use Rattle.relax.specs.Guard.{unbounded, NoneFrom, LeastFrom}
+use Rattle.relax.specs.Settle.{Pass}
 use Rattle.rows.specs.Table.{delayIn, latencyIn}
 use Rattle.rows.specs.declared.Header as R
 use Rattle.rows.specs.Cells.{Ends}
 use Rattle.bound.specs.Lookup.{labelIn, Heeding}
+use Rattle.bound.specs.Going.{Given, AllKept, Timed}
 use Rattle.hold.specs.Mark.{HeldIn}
 use Rattle.sweep.specs.Sweep.{AllHold, SomeFails}
 use Rattle.pass.specs.declared.Course.{Course}
@@ -55,9 +58,17 @@ climbsIn (suc n) = climbsIn n + (n * climbMost + (periodRange .high - 1))
 abbrev pub heldMost : R.Header → ℕ
 heldMost limits = climbsIn (limits .nodes)
 
--- the most rounds that there can be, whatever the horizon
+-- more rounds than there can be within a sheet's own horizon, where each moves a step of some node: 2^24
+abbrev pub noTest : ℕ
+noTest = sizeRange .high * (horizonRange .high + 1)
+
+-- the most rounds that there can be, whatever the horizon: twice the steps that held nodes can have, and the latest first test
 abbrev pub roundsMost : R.Header → ℕ
-roundsMost limits = heldMost limits + heldMost limits + 2
+roundsMost limits = heldMost limits + heldMost limits + noTest
+
+-- The floating-set test is one of labels without lower bounds; under bounds it is not due in any round that there can be.
+abbrev pub Testable : (limits : R.Header) (bound : ℕ → ℕ) (due : ℕ) → Type 0
+Testable limits bound due = (bound ≡ unbounded) ⊎ ((limits .horizon ≤ horizonRange .high) × (noTest ≤ due))
 
 -- what a pass of each course comes to
 pub data TurnEnds (differences first steps : List ℕ) (m : ℕ) : Course → Turn → Type 0 where
@@ -78,6 +89,19 @@ HeedEnds graph differences limits next steps heeded test r =
     Ends r (Heeds graph differences limits next steps heeded test)
     ((v : ℕ) × (v < limits .nodes) × (HeldIn graph differences steps (shiftIn limits) (limits .nodes) (limits .differences) v → ⊥) × (test ≡ true))
 
--- the labels are the least legal ones, or nothing is legal within H
-abbrev pub Relaxed : (S : Sheet) (H : ℕ) (steps levels : List ℕ) → Bool → Type 0
-Relaxed S H steps levels r = Ends r (Least S H (labelIn steps levels)) (NoneLegal S H)
+-- labels to go on from under lower bounds: guarded, at or after their bounds, in time; and a fitting cut of each logic node is kept
+pub record Resumable (S : Sheet) (bound : ℕ → ℕ) (graph differences : List ℕ) (limits : R.Header) (kept steps levels : List ℕ) : Type 0 where
+  pub given : Given S graph differences limits
+  pub allKept : AllKept S kept
+  pub timed : Timed S (limits .horizon) steps levels
+  pub pass : Pass S bound (labelIn steps levels) 0
+
+-- the labels that were sought: the least legal ones within H that heed the bounds, in time, and the cuts still kept
+pub record Found (S : Sheet) (bound : ℕ → ℕ) (H : ℕ) (kept steps levels : List ℕ) : Type 0 where
+  pub least : LeastFrom S bound H (labelIn steps levels)
+  pub timed : Timed S H steps levels
+  pub allKept : AllKept S kept
+
+-- they are found, or no labelling that heeds the bounds is legal within H
+abbrev pub Relaxed : (S : Sheet) (bound : ℕ → ℕ) (H : ℕ) (kept steps levels : List ℕ) → Bool → Type 0
+Relaxed S bound H kept steps levels r = Ends r (Found S bound H kept steps levels) (NoneFrom S bound H)

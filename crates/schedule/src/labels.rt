@@ -1,5 +1,5 @@
-// The least labels: passes from the earliest labels on, with a sweep over the differences between two of them, until every difference holds, a label
-// ends after the horizon, or nodes float.
+// The least labels: passes from given labels on, with a sweep over the differences between two of them, until every difference holds, a label ends
+// after the horizon, or nodes float.
 ghost use mathlib.Core.Path.{_≡_};
 ghost use mathlib.Core.Bool.{true};
 ghost use mathlib.Core.List.{List, []};
@@ -8,6 +8,7 @@ ghost use lib.Dec.{eqb};
 ghost use Rattle.maps.specs.Sheet.{Sheet};
 ghost use Rattle.maps.specs.Least.{at, leastWithin, late, least};
 ghost use Rattle.maps.specs.Outcome.{cutless};
+ghost use Rattle.relax.specs.Guard.{unbounded};
 ghost use Rattle.rows.specs.Cells.{Ends};
 ghost use Rattle.bound.specs.Lookup.{labelsIn, Linked, Heeding};
 ghost use Rattle.bound.specs.Going.{Given, Timed, AllKept};
@@ -16,7 +17,7 @@ ghost use Rattle.pass.specs.Turn.{Underway, Onward};
 ghost use Rattle.pass.specs.declared.Course.the-variants.{Whole};
 ghost use Rattle.sweep.specs.Sweep.{SomeFails};
 ghost use Rattle.hold.specs.Mark.{Floats};
-ghost use Rattle.schedule.specs.Round.{shiftFor, shiftIn, Started, TurnEnds, HeedEnds, Relaxed};
+ghost use Rattle.schedule.specs.Round.{shiftFor, shiftIn, Started, TurnEnds, HeedEnds, Resumable, Relaxed, Testable, noTest};
 use bound::Levels;
 use bound::Steps;
 use bound::clear_labels;
@@ -59,6 +60,12 @@ const WHOLE_UP_TO: u32 = 4;
 
 // The rounds after which nodes are frozen. Fewer settle most sheets, and there freezing only adds to them.
 const FREEZE_FROM: u32 = 512;
+
+// The round after which the first floating-set test comes, where labels have no lower bounds.
+pub const FIRST_TEST: u32 = 2;
+
+// More rounds than there can be within a sheet's own horizon, 256 times 65,536: under lower bounds no test comes.
+pub const NO_TEST: u32 = 16777216;
 
 // How a round is done: with a test where it is due, and then whole.
 pub fn mode_of(round: u32, due: u32) -> Mode
@@ -201,7 +208,8 @@ pub fn heed(
     true
 }
 
-// Rounds until one is the last, with a sweep after each, and the floating-set test after 2, 3, 4, 8, 16, .. of them.
+// Rounds until one is the last, with a sweep after each, and the floating-set test after some of them, from round `testing` on. Labels never fall, so a
+// node whose label starts at its lower bound heeds it without a table of bounds.
 pub fn relax(
     graph: &Graph,
     differences: &Differences,
@@ -211,15 +219,18 @@ pub fn relax(
     kept: &mut Cuts,
     steps: &mut Steps,
     levels: &mut Levels,
+    testing: u32,
 ) -> bool
     requires { ⌜ Linked (now differences) (limits .differences) (now first) (now next) ⌝ }
     requires { ⌜ Underway (now graph) (now differences) limits (now first) (now next) (now kept) (now steps) (now levels) 0 ⌝ }
-    ensures { λ r. ⌜ Onward (now (graph .entry)) (now (differences .entry)) limits (now (first .entry)) (now (next .entry)) (now (kept .entry)) (now (steps .entry)) (now (levels .entry)) 0 (λ S. Relaxed S (limits .horizon) (now (steps .exit)) (now (levels .exit)) r) ⌝ }
+    requires { ⌜ (0 < testing) × (testing ≤ noTest) ⌝ }
+    ensures { λ r. ⌜ Onward (now (graph .entry)) (now (differences .entry)) limits (now (first .entry)) (now (next .entry)) (now (kept .entry)) (now (steps .entry)) (now (levels .entry)) 0
+        (λ S bound. Testable limits bound testing → Relaxed S bound (limits .horizon) (now (kept .exit)) (now (steps .exit)) (now (levels .exit)) r) ⌝ }
 {
     let mut heeded = *first;
     let mut since = *steps;
     let mut rounds: u32 = 0;
-    let mut due: u32 = 2;
+    let mut due = testing;
     loop {
         rounds += 1;
         let mode = mode_of(rounds, due);
@@ -262,6 +273,58 @@ pub fn relax(
     }
 }
 
+// Goes on from labels that are after no legal labelling to the least legal ones within the horizon of the limits, of those that heed the lower bounds;
+// false where there are none. `kept` has a fitting cut of each logic node. Under lower bounds `testing` is NO_TEST. Where true, the labels can be gone
+// on from; where false, nothing is known of them or of `kept`.
+pub fn resume(
+    graph: &Graph,
+    differences: &Differences,
+    limits: Header,
+    kept: &mut Cuts,
+    steps: &mut Steps,
+    levels: &mut Levels,
+    testing: u32,
+) -> bool
+    requires { ⌜ ((S : Sheet) × (bound : ℕ → ℕ) × Resumable S bound (now graph) (now differences) limits (now kept) (now steps) (now levels)) ⌝ }
+    requires { ⌜ (0 < testing) × (testing ≤ noTest) ⌝ }
+    ensures { λ r. ⌜ ((S : Sheet) (bound : ℕ → ℕ) → Resumable S bound (now (graph .entry)) (now (differences .entry)) limits (now (kept .entry)) (now (steps .entry)) (now (levels .entry))
+        → Testable limits bound testing → Relaxed S bound (limits .horizon) (now (kept .exit)) (now (steps .exit)) (now (levels .exit)) r) ⌝ }
+{
+    let mut first = [0u32; 256];
+    let mut next = [0u32; 1024];
+    link(differences, &mut first, &mut next, limits.differences);
+    relax(
+        graph,
+        differences,
+        limits,
+        &first,
+        &next,
+        kept,
+        steps,
+        levels,
+        testing,
+    )
+}
+
+// Seeks the least legal labels within the horizon of the limits, from the first labels on; false where there are none.
+pub fn seek(
+    graph: &Graph,
+    differences: &Differences,
+    limits: Header,
+    kept: &mut Cuts,
+    steps: &mut Steps,
+    levels: &mut Levels,
+) -> bool
+    requires { ⌜ ((S : Sheet) × Given S (now graph) (now differences) limits × AllKept S (now kept)) ⌝ }
+    ensures { λ r. ⌜ ((S : Sheet) → Given S (now (graph .entry)) (now (differences .entry)) limits → AllKept S (now (kept .entry))
+        → Relaxed S unbounded (limits .horizon) (now (kept .exit)) (now (steps .exit)) (now (levels .exit)) r) ⌝ }
+{
+    if !start(graph, steps, levels, limits.nodes, limits.horizon) {
+        return false;
+    }
+    resume(graph, differences, limits, kept, steps, levels, FIRST_TEST)
+}
+
 // Writes the least legal labels within the horizon of the limits; false where no labelling is legal within it. `kept` has a fitting cut of each
 // logic node.
 pub fn least_labels(
@@ -276,20 +339,5 @@ pub fn least_labels(
     ensures { λ r. ⌜ ((S : Sheet) → Given S (now (graph .entry)) (now (differences .entry)) limits → AllKept S (now (kept .entry)) → cutless S ≡ []
         → Ends r (leastWithin S (limits .horizon) ≡ least (labelsIn (limits .nodes) (now (steps .exit)) (now (levels .exit)))) (leastWithin S (limits .horizon) ≡ late)) ⌝ }
 {
-    let mut first = [0u32; 256];
-    let mut next = [0u32; 1024];
-    if !start(graph, steps, levels, limits.nodes, limits.horizon) {
-        return false;
-    }
-    link(differences, &mut first, &mut next, limits.differences);
-    relax(
-        graph,
-        differences,
-        limits,
-        &first,
-        &next,
-        kept,
-        steps,
-        levels,
-    )
+    seek(graph, differences, limits, kept, steps, levels)
 }

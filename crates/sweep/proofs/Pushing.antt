@@ -24,8 +24,8 @@ use Rattle.bound.proofs.Bounds.{push-forced, push-heeds}
 use Rattle.bound.proofs.Placing.{forced-late, placed-timed, placed-raised}
 use Rattle.sweep.specs.Sweep.{Sweepable, PushEnds}
 
-module _ {S : Sheet} {graph differences : List ℕ} {limits : R.Header} {first next steps levels : List ℕ}
-    (on : Sweepable S graph differences limits first next steps levels) (v : ℕ) (l : v < limits .nodes) where
+module _ {S : Sheet} {graph differences : List ℕ} {limits : R.Header} {first next steps levels : List ℕ} {bound : ℕ → ℕ}
+    (on : Sweepable S bound graph differences limits first next steps levels) (v : ℕ) (l : v < limits .nodes) where
   inside : v < size S
   inside = node-in (on .given) v l .0
 
@@ -35,7 +35,7 @@ module _ {S : Sheet} {graph differences : List ℕ} {limits : R.Header} {first n
   -- s is what the heeded differences into v ask of its step
   module _ (s : ℕ) (diffs : Greatest (getD steps v 0) (Into differences first (limits .differences) v) (pushOf differences steps) s) where
     -- not more than its own
-    pub push-none : s ≤ getD steps v 0 → PushEnds S (limits .horizon) first steps levels steps levels v true
+    pub push-none : s ≤ getD steps v 0 → PushEnds S bound (limits .horizon) first steps levels steps levels v true
     push-none h = (
       on .timed,
       labelIn steps levels v,
@@ -63,7 +63,7 @@ module _ {S : Sheet} {graph differences : List ℕ} {limits : R.Header} {first n
         }
 
     pub push-placed : getD steps v 0 < s → (b : Label) → b ≡ label s (delayIn graph v) → (steps′ levels′ : List ℕ) (r : Bool)
-        → LabelPlaced graph steps levels steps′ levels′ v b (limits .horizon) r → PushEnds S (limits .horizon) first steps levels steps′ levels′ v r
+        → LabelPlaced graph steps levels steps′ levels′ v b (limits .horizon) r → PushEnds S bound (limits .horizon) first steps levels steps′ levels′ v r
     push-placed h b e steps′ levels′ r = go r
       where
         p : Pushes S (Heeded first) (labelIn steps levels) v b
@@ -74,7 +74,7 @@ module _ {S : Sheet} {graph differences : List ℕ} {limits : R.Header} {first n
         Held : List ℕ → List ℕ → Type 0
         Held x y = Timed S (limits .horizon) x y × (a : Label) × Pushes S (Heeded first) (labelIn steps levels) v a × Raised S (labelIn steps levels) v a (labelIn x y)
 
-        go : (r : Bool) → LabelPlaced graph steps levels steps′ levels′ v b (limits .horizon) r → PushEnds S (limits .horizon) first steps levels steps′ levels′ v r
+        go : (r : Bool) → LabelPlaced graph steps levels steps′ levels′ v b (limits .horizon) r → PushEnds S bound (limits .horizon) first steps levels steps′ levels′ v r
         go true w =
             subst (λ (x : List ℕ). Held x levels′) (sym (w .1))
             (subst (Held (set steps v (b .step))) (sym (w .2))
@@ -82,17 +82,17 @@ module _ {S : Sheet} {graph differences : List ℕ} {limits : R.Header} {first n
         go false w = forced-late (on .given) steps levels v l b (on .pass .guarded) (p .forced) (w .0)
 
 -- in the midst of a sweep from the labels L on
-module _ {S : Sheet} {graph differences : List ℕ} {limits : R.Header} {first next steps₀ levels₀ steps levels : List ℕ}
-    (from : Sweepable S graph differences limits first next steps₀ levels₀) (k : ℕ) (timed : Timed S (limits .horizon) steps levels)
-    (w : Sweeping S (Heeded first) (labelIn steps₀ levels₀) k (labelIn steps levels)) where
-  pub swept-sweepable : Sweepable S graph differences limits first next steps levels
+module _ {S : Sheet} {graph differences : List ℕ} {limits : R.Header} {first next steps₀ levels₀ steps levels : List ℕ} {bound : ℕ → ℕ}
+    (from : Sweepable S bound graph differences limits first next steps₀ levels₀) (k : ℕ) (timed : Timed S (limits .horizon) steps levels)
+    (w : Sweeping S bound (Heeded first) (labelIn steps₀ levels₀) k (labelIn steps levels)) where
+  pub swept-sweepable : Sweepable S bound graph differences limits first next steps levels
   swept-sweepable = record { given = from .given; heeding = from .heeding; timed = timed; pass = w .pass }
 
   -- one node more
-  pub sweep-turn : (v : ℕ) → k ≡ v + 1 → v < limits .nodes → (steps′ levels′ : List ℕ) → PushEnds S (limits .horizon) first steps levels steps′ levels′ v true
-      → Timed S (limits .horizon) steps′ levels′ × Sweeping S (Heeded first) (labelIn steps₀ levels₀) v (labelIn steps′ levels′)
+  pub sweep-turn : (v : ℕ) → k ≡ v + 1 → v < limits .nodes → (steps′ levels′ : List ℕ) → PushEnds S bound (limits .horizon) first steps levels steps′ levels′ v true
+      → Timed S (limits .horizon) steps′ levels′ × Sweeping S bound (Heeded first) (labelIn steps₀ levels₀) v (labelIn steps′ levels′)
   sweep-turn v e l steps′ levels′ p = (
     p .0,
     sweep-on S (well-closed S (from .given .well)) (Heeded first) (labelIn steps₀ levels₀) v (labelIn steps levels) (node-in (from .given) v l .0)
-        (subst (λ (i : ℕ). Sweeping S (Heeded first) (labelIn steps₀ levels₀) i (labelIn steps levels)) e w) (p .1) (p .2) (labelIn steps′ levels′) (p .3),
+        (subst (λ (i : ℕ). Sweeping S bound (Heeded first) (labelIn steps₀ levels₀) i (labelIn steps levels)) e w) (p .1) (p .2) (labelIn steps′ levels′) (p .3),
   )

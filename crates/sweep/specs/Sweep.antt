@@ -8,11 +8,10 @@ use lib.Dec.{eqb}
 use lib.ListN.{length, getD}
 use Rattle.maps.specs.Label.{Label}
 use Rattle.maps.specs.Sheet.{Sheet}
-use Rattle.maps.specs.Legal.{NoneLegal}
 use Rattle.rows.specs.Table.{fromIn, toIn}
 use Rattle.rows.specs.declared.Header as R
 use Rattle.rows.specs.Cells.{Ends}
-use Rattle.relax.specs.Guard.{Raised}
+use Rattle.relax.specs.Guard.{NoneFrom, Raised}
 use Rattle.relax.specs.Settle.{Pass}
 use Rattle.relax.specs.Sweep.{Pushes, Sweeping}
 use Rattle.bound.specs.Lookup.{labelIn, Heeded, Heeding}
@@ -48,20 +47,20 @@ abbrev pub Thawed : (differences first steps heeded heeded' : List ℕ) (m : ℕ
 Thawed differences first steps heeded heeded' m =
     (AllHold differences heeded steps m × (heeded' ≡ first)) ⊎ (SomeFails differences heeded steps m × (heeded' ≡ heeded))
 
--- labels of the sheet of these tables that a sweep can begin with
-pub record Sweepable (S : Sheet) (graph differences : List ℕ) (limits : R.Header) (first next steps levels : List ℕ) : Type 0 where
+-- labels of the sheet of these tables that a sweep can begin with, under lower bounds
+pub record Sweepable (S : Sheet) (bound : ℕ → ℕ) (graph differences : List ℕ) (limits : R.Header) (first next steps levels : List ℕ) : Type 0 where
   pub given : Given S graph differences limits
   pub heeding : Heeding differences (limits .differences) first next
   pub timed : Timed S (limits .horizon) steps levels
-  pub pass : Pass S (labelIn steps levels) 0
+  pub pass : Pass S bound (labelIn steps levels) 0
 
--- v has a label that pushes it, or nothing is legal within H
-abbrev pub PushEnds : (S : Sheet) (H : ℕ) (first steps levels steps' levels' : List ℕ) (v : ℕ) → Bool → Type 0
-PushEnds S H first steps levels steps' levels' v r =
+-- v has a label that pushes it, or nothing that heeds the lower bounds is legal within H
+abbrev pub PushEnds : (S : Sheet) (bound : ℕ → ℕ) (H : ℕ) (first steps levels steps' levels' : List ℕ) (v : ℕ) → Bool → Type 0
+PushEnds S bound H first steps levels steps' levels' v r =
     Ends r (Timed S H steps' levels'
-    × (b : Label) × Pushes S (Heeded first) (labelIn steps levels) v b × Raised S (labelIn steps levels) v b (labelIn steps' levels')) (NoneLegal S H)
+    × (b : Label) × Pushes S (Heeded first) (labelIn steps levels) v b × Raised S (labelIn steps levels) v b (labelIn steps' levels')) (NoneFrom S bound H)
 
--- every node was pushed in turn, or nothing is legal within H
-abbrev pub SweepEnds : (S : Sheet) (H : ℕ) (first steps levels steps' levels' : List ℕ) → Bool → Type 0
-SweepEnds S H first steps levels steps' levels' r =
-    Ends r (Timed S H steps' levels' × Sweeping S (Heeded first) (labelIn steps levels) 0 (labelIn steps' levels')) (NoneLegal S H)
+-- every node was pushed in turn, or nothing that heeds the lower bounds is legal within H
+abbrev pub SweepEnds : (S : Sheet) (bound : ℕ → ℕ) (H : ℕ) (first steps levels steps' levels' : List ℕ) → Bool → Type 0
+SweepEnds S bound H first steps levels steps' levels' r =
+    Ends r (Timed S H steps' levels' × Sweeping S bound (Heeded first) (labelIn steps levels) 0 (labelIn steps' levels')) (NoneFrom S bound H)

@@ -151,10 +151,10 @@ pub fn push(
     levels: &mut Levels,
     v: u32,
 ) -> bool
-    requires { ⌜ ((S : Sheet) × Sweepable S (now graph) (now differences) limits (now first) (now next) (now steps) (now levels)) ⌝ }
+    requires { ⌜ ((S : Sheet) × (bound : ℕ → ℕ) × Sweepable S bound (now graph) (now differences) limits (now first) (now next) (now steps) (now levels)) ⌝ }
     requires { ⌜ v < limits .nodes ⌝ }
-    ensures { λ r. ⌜ ((S : Sheet) → Sweepable S (now (graph .entry)) (now (differences .entry)) limits (now (first .entry)) (now (next .entry)) (now (steps .entry)) (now (levels .entry)) → v < limits .nodes
-        → PushEnds S (limits .horizon) (now (first .entry)) (now (steps .entry)) (now (levels .entry)) (now (steps .exit)) (now (levels .exit)) v r) ⌝ }
+    ensures { λ r. ⌜ ((S : Sheet) (bound : ℕ → ℕ) → Sweepable S bound (now (graph .entry)) (now (differences .entry)) limits (now (first .entry)) (now (next .entry)) (now (steps .entry)) (now (levels .entry)) → v < limits .nodes
+        → PushEnds S bound (limits .horizon) (now (first .entry)) (now (steps .entry)) (now (levels .entry)) (now (steps .exit)) (now (levels .exit)) v r) ⌝ }
 {
     let own = step_of(steps, v);
     let asked = after_differences(differences, first, next, steps, limits.differences, v, own);
@@ -175,9 +175,9 @@ pub fn sweep(
     steps: &mut Steps,
     levels: &mut Levels,
 ) -> bool
-    requires { ⌜ ((S : Sheet) × Sweepable S (now graph) (now differences) limits (now first) (now next) (now steps) (now levels)) ⌝ }
-    ensures { λ r. ⌜ ((S : Sheet) → Sweepable S (now (graph .entry)) (now (differences .entry)) limits (now (first .entry)) (now (next .entry)) (now (steps .entry)) (now (levels .entry))
-        → SweepEnds S (limits .horizon) (now (first .entry)) (now (steps .entry)) (now (levels .entry)) (now (steps .exit)) (now (levels .exit)) r) ⌝ }
+    requires { ⌜ ((S : Sheet) × (bound : ℕ → ℕ) × Sweepable S bound (now graph) (now differences) limits (now first) (now next) (now steps) (now levels)) ⌝ }
+    ensures { λ r. ⌜ ((S : Sheet) (bound : ℕ → ℕ) → Sweepable S bound (now (graph .entry)) (now (differences .entry)) limits (now (first .entry)) (now (next .entry)) (now (steps .entry)) (now (levels .entry))
+        → SweepEnds S bound (limits .horizon) (now (first .entry)) (now (steps .entry)) (now (levels .entry)) (now (steps .exit)) (now (levels .exit)) r) ⌝ }
 {
     let mut v = limits.nodes;
     while v > 0 {

@@ -11,7 +11,7 @@ use Rattle.pass.proofs.node_label.Tie as tie
 base-label-requires : tie.Need-base-label-requires
 base-label-requires c κs =
     let p = c .pre in
-    (p .0 .0, bounding (p .0 .1) (c .args .v) (p .1))
+    (p .0 .0, bounding (p .0 .2) (c .args .v) (p .1))
 
 table-label-requires : tie.Need-table-label-requires
 table-label-requires c κs =
@@ -20,17 +20,17 @@ table-label-requires c κs =
     let b = k .before in
     let s = b .before in
     let S = s .pre .0 .0 in
-    let going = s .pre .0 .1 in
+    let going = s .pre .0 .2 in
     let l = s .pre .1 in
     let v = s .args .v in
     let here = placed going v l (kind-is going v l _ (k .kind-in .ensures) ∙ ap kindMeant (t .enum-told .given .1)) in
     let based = b .base-label .ensures S (bounding going v l) in
-    ((S, here, going .allKept .keeps v (here .node) (here .logic)), (λ u k. soon-all (going .given) (going .timed) u (omega (arith, l)), (going .allKept .wide, based-level going v l (s .pre .0 .2) based)))
+    ((S, here, going .allKept .keeps v (here .node) (here .logic)), (λ u k. soon-all (going .given) (going .timed) u (omega (arith, l)), (going .allKept .wide, based-level going v l (s .pre .0 .3) based)))
 
 latest-arrival-requires : tie.Need-latest-arrival-requires
 latest-arrival-requires c κs =
     let s = c .before .before .before .before in
-    let going = s .pre .0 .1 in
+    let going = s .pre .0 .2 in
     let l = s .pre .1 in
     (node-in (going .given) (s .args .v) l .1, (graph-falls (going .given), λ u k. soon-all (going .given) (going .timed) u (omega (arith, l))))
 
@@ -40,25 +40,25 @@ open-label-requires c κs =
     let b = t .before .before .before in
     let s = b .before in
     let S = s .pre .0 .0 in
-    let going = s .pre .0 .1 in
+    let going = s .pre .0 .2 in
     let l = s .pre .1 in
     let v = s .args .v in
     let based = b .base-label .ensures S (bounding going v l) in
-    (node-in (going .given) v l .1, (latest-room going v l (s .pre .0 .2) based (c .latest-arrival .ensures), whole-window going v l (s .pre .0 .2) based))
+    (node-in (going .given) v l .1, (latest-room going v l (s .pre .0 .3) based (c .latest-arrival .ensures), whole-window going v l (s .pre .0 .3) based))
 
 returns : tie.Need-returns
-returns c S going p l =
+returns c S bound going p l =
     let t = c .before .before in
     let k = t .before .before in
     let b = k .before in
     let s = b .before in
     let v = s .args .v in
     let here = placed going v l (kind-is going v l _ (k .kind-in .ensures) ∙ ap kindMeant (t .enum-told .given .1)) in
-    let x = c .table-label .ensures .0 S here (going .allKept .keeps v (here .node) (here .logic)) p (b .base-label .ensures S (bounding going v l)) in
+    let x = c .table-label .ensures .0 S bound here (going .allKept .keeps v (here .node) (here .logic)) p (b .base-label .ensures S (bounding going v l)) in
     record { settles = x .0; allKept = kept-beside (going .given .well) (going .allKept) (c .table-label .ensures .1 .1) (c .table-label .ensures .1 .0) (x .1) }
 
 returns-2 : tie.Need-returns-2
-returns-2 c S going p l =
+returns-2 c S bound going p l =
     let k = c .before .before in
     let b = k .before in
     let s = b .before in
@@ -69,7 +69,7 @@ returns-2 c S going p l =
     }
 
 returns-3 : tie.Need-returns-3
-returns-3 c S going p l =
+returns-3 c S bound going p l =
     let m = c .before in
     let t = m .before in
     let k = t .before .before in

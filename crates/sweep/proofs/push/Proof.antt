@@ -14,11 +14,11 @@ use Rattle.sweep.proofs.push.Tie as tie
 after-differences-requires : tie.Need-after-differences-requires
 after-differences-requires c κs =
     let s = c .before .before .before in
-    let r = s .pre .0 .1 in
+    let r = s .pre .0 .2 in
     ((node-in (r .given) (s .args .v) (s .pre .1) .1, few-differences (r .given)), (r .heeding, summed-all (r .given) (r .timed)))
 
 returns : tie.Need-returns
-returns c S on l =
+returns c S bound on l =
     let d = c .before .before .before in
     let o = d .before .before in
     let s = o .before .before in
@@ -29,10 +29,10 @@ returns c S on l =
 place-label-requires : tie.Need-place-label-requires
 place-label-requires c κs =
     let s = c .before .before .before .before .before .before .before .before .before .before .before in
-    node-in (s .pre .0 .1 .given) (s .args .v) (s .pre .1) .1
+    node-in (s .pre .0 .2 .given) (s .args .v) (s .pre .1) .1
 
 returns-2 : tie.Need-returns-2
-returns-2 c S on l =
+returns-2 c S bound on l =
     let t = c .before .before .before in
     let n = t .before in
     let e = n .before in

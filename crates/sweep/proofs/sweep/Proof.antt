@@ -18,8 +18,8 @@ use Rattle.sweep.proofs.sweep.Tie as tie
 abbrev Inv-loop : tie.InvT-loop
 Inv-loop graph differences limits first next steps₀ levels₀ v₀ steps levels v =
     (v ≤ limits .nodes)
-    × ((S : Sheet) → Sweepable S graph differences limits first next steps₀ levels₀
-    → Timed S (limits .horizon) steps levels × Sweeping S (Heeded first) (labelIn steps₀ levels₀) v (labelIn steps levels))
+    × ((S : Sheet) (bound : ℕ → ℕ) → Sweepable S bound graph differences limits first next steps₀ levels₀
+    → Timed S (limits .horizon) steps levels × Sweeping S bound (Heeded first) (labelIn steps₀ levels₀) v (labelIn steps levels))
 
 abbrev μ-loop : tie.MeasureT-loop
 μ-loop graph differences limits first next steps₀ levels₀ v₀ steps levels v = v
@@ -29,9 +29,9 @@ loop-holds c =
     let a = c .args in
     let L = labelIn (a .steps .now) (a .levels .now) in (
       omega arith,
-      λ S on. (
+      λ S bound on. (
         on .timed,
-        subst (λ (k : ℕ). Sweeping S (Heeded (a .first .now)) L k L) (sym (on .given .nodes)) (sweep-none S (well-closed S (on .given .well)) (Heeded (a .first .now)) L (on .pass)),
+        subst (λ (k : ℕ). Sweeping S bound (Heeded (a .first .now)) L k L) (sym (on .given .nodes)) (sweep-none S (well-closed S (on .given .well)) (Heeded (a .first .now)) L (on .pass)),
       ),
     )
 
@@ -40,20 +40,20 @@ push-requires c κs =
     let i = c .before .before in
     let l = i .before .loop in
     let p = i .before .before .pre in
-    let w = l .inv .1 (p .0) (p .1) in
+    let w = l .inv .1 (p .0) (p .1) (p .2) in
     let t = i .loop-test .taken in
     let h = l .inv .0 in
-    ((p .0, swept-sweepable (p .1) (l .v) (w .0) (w .1)), omega arith)
+    ((p .0, p .1, swept-sweepable (p .2) (l .v) (w .0) (w .1)), omega arith)
 
 returns : tie.Need-returns Inv-loop μ-loop
-returns c S on =
+returns c S bound on =
     let e = c .before .push in
     let i = c .before .before .before .before in
     let l = i .before .loop in
-    let w = l .inv .1 S on in
+    let w = l .inv .1 S bound on in
     let t = i .loop-test .taken in
     let h = l .inv .0 in
-    rw (not-true (e .result) (c .if1 .taken)) at (e .ensures S (swept-sweepable on (l .v) (w .0) (w .1)) (omega arith))
+    rw (not-true (e .result) (c .if1 .taken)) at (e .ensures S bound (swept-sweepable on (l .v) (w .0) (w .1)) (omega arith))
 
 loop-again : tie.Need-loop-again Inv-loop μ-loop
 loop-again c =
@@ -63,19 +63,19 @@ loop-again c =
     let t = i .loop-test .taken in
     let h = l .inv .0 in (
       omega arith,
-      λ S on.
-          let w = l .inv .1 S on in
-          let p = rw (not-false (e .result) (c .if1 .left)) at (e .ensures S (swept-sweepable on (l .v) (w .0) (w .1)) (omega arith)) in
+      λ S bound on.
+          let w = l .inv .1 S bound on in
+          let p = rw (not-false (e .result) (c .if1 .left)) at (e .ensures S bound (swept-sweepable on (l .v) (w .0) (w .1)) (omega arith)) in
           sweep-turn on (l .v) (w .0) (w .1) (l .v - 1) (omega arith) (omega arith) _ _ p,
     )
 
 returns-2 : tie.Need-returns-2 Inv-loop μ-loop
-returns-2 c S on =
+returns-2 c S bound on =
     let l = c .before .loop in
     let a = c .before .before .args in
-    let w = l .inv .1 S on in
+    let w = l .inv .1 S bound on in
     let t = c .loop-test .left in
-    (w .0, subst (λ (k : ℕ). Sweeping S (Heeded (a .first .now)) (labelIn (a .steps .now) (a .levels .now)) k (labelIn (l .steps) (l .levels))) (omega arith) (w .1))
+    (w .0, subst (λ (k : ℕ). Sweeping S bound (Heeded (a .first .now)) (labelIn (a .steps .now) (a .levels .now)) k (labelIn (l .steps) (l .levels))) (omega arith) (w .1))
 
 pub sweep-spec : {M : Type 1} → statement M
 sweep-spec =

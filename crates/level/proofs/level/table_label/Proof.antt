@@ -14,12 +14,12 @@ least-level-requires c κs =
 returns : tie.Need-returns
 returns c =
     let e = c .before .before .before .before .least-level .ensures in
-    (λ S p keeps pass based. label-here p (e .0) keeps pass based (c .before .if1 .taken) (c .at .ensures), (e .0 .beside, e .1))
+    (λ S bound p keeps pass based. label-here p (e .0) keeps pass based (c .before .if1 .taken) (c .at .ensures), (e .0 .beside, e .1))
 
 returns-2 : tie.Need-returns-2
 returns-2 c =
     let e = c .before .before .before .before .before .least-level .ensures in
-    (λ S p keeps pass based. label-next p (e .0) keeps pass based (c .before .before .if1 .left) (c .before .delay-in .ensures) (c .next-step .ensures), (e .0 .beside, e .1))
+    (λ S bound p keeps pass based. label-next p (e .0) keeps pass based (c .before .before .if1 .left) (c .before .delay-in .ensures) (c .next-step .ensures), (e .0 .beside, e .1))
 
 pub table-label-spec : {M : Type 1} → statement M
 table-label-spec =

@@ -5,7 +5,7 @@ use mathlib.Core.Path.{_≡_, refl, subst, ap, _∙_}
 use native.Mathlib.Omega.{arith}
 use Rattle.maps.specs.Label.{Label}
 use Rattle.schedule.specs.Round.{First}
-use Rattle.schedule.proofs.Rounds.{first-none, first-more}
+use Rattle.schedule.proofs.Starts.{first-none, first-more}
 use Rattle.schedule.proofs.labels.start.Statement.{statement}
 use Rattle.schedule.proofs.labels.start.Tie as tie
 

@@ -1,9 +1,9 @@
--- Least labels are guarded.
+-- Least labels are guarded, under the lower bounds that they are least under.
 --
--- Why this holds. Let Q keep the conditions of a set X and be nowhere before the least labels outside X. Take the sooner of the two labels at each
--- node of X, and the least label at every other. Each node has its label from one of the two, which keeps the node's conditions, and the others
--- have moved back at the most; a condition asks no more where those are earlier. So this labelling is legal, within the same horizon, and the least
--- labels are nowhere after it. In X it is nowhere after Q.
+-- Why this holds. Let Q keep the conditions of a set X, bounds included, and be nowhere before the least labels outside X. Take the sooner of the two
+-- labels at each node of X, and the least label at every other. Each node has its label from one of the two, which keeps the node's conditions and
+-- its bound, and the others have moved back at the most; a condition asks no more where those are earlier. So this labelling is legal, within the
+-- same horizon, and heeds the bounds, and the least labels are nowhere after it. In X it is nowhere after Q.
 use Prim.Native.Nat.{ℕ, _≤_, _<_}
 use mathlib.Core.Path.{_≡_, refl, sym, subst, ap}
 use mathlib.Core.Bool.{Bool, true, false, cond}
@@ -14,13 +14,14 @@ use Rattle.maps.specs.Label.{Label, _≼_, sooner}
 use Rattle.maps.specs.Sheet.{Sheet, Kind, input, logic, box, node, size, window, latency, clockToQ}
 use Rattle.maps.specs.Window.{Open}
 use Rattle.maps.specs.Cut.{cut}
-use Rattle.maps.specs.Legal.{readyOf, arrives, Carried, Legal, Least}
+use Rattle.maps.specs.Legal.{readyOf, arrives, Carried, Legal}
 use Rattle.maps.proofs.Order.{≼-refl, ≼-trans, plus-mono, ready-mono, sooner-is, sooner-left, sooner-right}
 use Rattle.maps.proofs.Member.{All-at, All-of, mem-in}
-use Rattle.relax.specs.Guard.{NodeOk, DiffsInto, Guarded}
+use Rattle.relax.specs.Guard.{NodeOk, DiffsInto, From, LeastFrom, Guarded}
+use Rattle.relax.specs.Settle.{Pass}
 use Rattle.relax.proofs.Closed.{Closed, inside}
 use Rattle.relax.proofs.Guard.{legal-node, legal-diffs, ok-legal}
 use Rattle.relax.proofs.Forced.{leaf-read}
 
 module _ (S : Sheet) (closed : Closed S) where
   -- N has the label of Q at v and is nowhere after it: v keeps its conditions
@@ -74,9 +75,10 @@ module _ (S : Sheet) (closed : Closed S) where
               );
         }
 
-  module _ (G : ℕ) (L : ℕ → Label) (h : Least S G L) (X : ℕ → Bool) (Q : ℕ → Label)
+  module _ (bound : ℕ → ℕ) (G : ℕ) (L : ℕ → Label) (h : LeastFrom S bound G L) (X : ℕ → Bool) (Q : ℕ → Label)
       (ok : (v : ℕ) → v < size S → X v ≡ true → NodeOk S Q v)
       (into : (v : ℕ) → v < size S → X v ≡ true → DiffsInto S Q v)
+      (above : (v : ℕ) → v < size S → X v ≡ true → bound v ≤ Q v .step)
       (out : (u : ℕ) → u < size S → X u ≡ false → L u ≼ Q u) where
     -- the sooner label in X, the least label outside
     abbrev meet : ℕ → Label
@@ -126,8 +128,26 @@ module _ (S : Sheet) (closed : Closed S) where
             go (inl e) = diffs-back meet L u k e under-L (legal-diffs S L (h .legal) u)
             go (inr e) = diffs-back meet Q u k (e .0) under-Q (into u k (e .1))
 
-    not-after : (v : ℕ) → v < size S → L v ≼ Q v
-    not-after v l = ≼-trans (h .least meet G meet-legal v l) (under-Q v l)
+    meet-from : From S bound meet
+    meet-from u k = go (from u)
+      where
+        go : (meet u ≡ L u) ⊎ ((meet u ≡ Q u) × (X u ≡ true)) → bound u ≤ meet u .step
+        go (inl e) = omega (arith, h .from u k, ap (λ (a : Label). a .step) e)
+        go (inr e) = omega (arith, above u k (e .1), ap (λ (a : Label). a .step) (e .0))
 
-  pub least-guarded : (G : ℕ) (L : ℕ → Label) → Least S G L → Guarded S L
-  least-guarded G L h = record { guard = λ X Q ok into out v l x. not-after G L h X Q ok into out v l }
+    not-after : (v : ℕ) → v < size S → L v ≼ Q v
+    not-after v l = ≼-trans (h .least meet G meet-legal meet-from v l) (under-Q v l)
+
+  pub least-guarded : (bound : ℕ → ℕ) (G : ℕ) (L : ℕ → Label) → LeastFrom S bound G L → Guarded S bound L
+  least-guarded bound G L h = record { guard = λ X Q ok into above out v l x. not-after bound G L h X Q ok into above out v l }
+
+  -- so what was found is in the midst of a pass, and can be gone on from
+  pub least-pass : (bound : ℕ → ℕ) (G : ℕ) (L : ℕ → Label) → LeastFrom S bound G L → Pass S bound L (size S)
+  least-pass bound G L h =
+      record {
+        guarded = least-guarded bound G L h;
+        from = h .from;
+        low = λ v l. h .legal .nodes v l .low;
+        high = λ v l. h .legal .nodes v l .high;
+        done = λ v l k. legal-node S L (h .legal) v k;
+      }
