@@ -12,7 +12,7 @@ import re
 import sys
 
 NAME = re.compile(r"[^\W\d][\w'-]*")
-CAMEL = re.compile(r"(?<=[a-z0-9'])(?=[A-Z])")
+CAMEL = re.compile(r"(?<=[a-z0-9'])(?=[A-Z])|(?<=[A-Z])(?=[A-Z][a-z])")
 KEPT = {"ownVal", "inRange", "deallocToken"}
 TYPES = {"Path-to": "PathTo", "Demand-1": "Demand1", "Demand-2": "Demand2", "Demand-3": "Demand3"}
 # Names that port.py spelled as a respelled one of the same file would be: there they keep their dash.

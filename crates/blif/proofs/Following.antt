@@ -8,7 +8,7 @@ use lib.Dec.{leb}
 use lib.ListN.{length, length-append}
 use borrow.Author.Tests.{leb-true}
 use Rattle.maps.specs.Lists.{All, all}
-use Rattle.maps.specs.Sheet.{input, box, latency_of, clock_to_qof}
+use Rattle.maps.specs.Sheet.{input, box, latency_of, clock_to_q_of}
 use Rattle.maps.specs.Limits.{ranges_of}
 use Rattle.maps.specs.WellFormed.{Within, code_of}
 use Rattle.maps.proofs.Over.{and-true}
@@ -24,7 +24,7 @@ use Rattle.blif.proofs.Ordering.{Ordered, ordered-none, ordered-more, Once, once
 -- what a definition can be, whatever T is
 pub record WellDefinition (x : Definition) : Type 0 where
   pub latency : (top : ℕ) → Within (ranges_of top (code_of x.kind)).latency (latency_of x.kind)
-  pub clock_to_q : clock_to_qof x.kind ≡ 0
+  pub clock_to_q : clock_to_q_of x.kind ≡ 0
   pub count : (top : ℕ) → Within (ranges_of top (code_of x.kind)).operands (length x.reads)
 
 well-input : (n : Word) → WellDefinition (definition n input [])

@@ -9,7 +9,7 @@ use lib.Dec.{leb}
 use lib.ListN.{length, get_or, length-map}
 use borrow.Author.Tests.{leb-true, le-leb}
 use Rattle.maps.specs.Lists.{All, equal}
-use Rattle.maps.specs.Sheet.{Sheet, Kind, input, logic, box, Node, no_node, size, is_logic, latency_of, clock_to_qof}
+use Rattle.maps.specs.Sheet.{Sheet, Kind, input, logic, box, Node, no_node, size, is_logic, latency_of, clock_to_q_of}
 use Rattle.maps.specs.Limits.{Range, leaves_range, top_range, horizon_range, ranges_of}
 use Rattle.maps.specs.Form.{among, passes}
 use Rattle.maps.specs.WellFormed.{Within, code_of, WellNode, WellFormed}
@@ -137,7 +137,7 @@ well-delay input top d l m = record { least = omega arith; most = omega arith }
 well-delay logic top d l m = record { least = l; most = m }
 well-delay (box lat q) top d l m = record { least = omega arith; most = omega arith }
 
-well-clock : (k : Kind) (top : ℕ) → clock_to_qof k ≡ 0 → Within ((ranges_of top (code_of k)).clock_to_q (latency_of k)) (clock_to_qof k)
+well-clock : (k : Kind) (top : ℕ) → clock_to_q_of k ≡ 0 → Within ((ranges_of top (code_of k)).clock_to_q (latency_of k)) (clock_to_q_of k)
 well-clock input top e = record { least = omega arith; most = omega arith }
 well-clock logic top e = record { least = omega arith; most = omega arith }
 well-clock (box zero q) top e = record { least = omega arith; most = omega arith }

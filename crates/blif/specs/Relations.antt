@@ -2,7 +2,7 @@
 use Rattle.std.specs.Prelude.{ℕ, ◌*◌, ◌≤◌, ◌<◌, ◌≡◌, true, cond, length, get_or}
 use mathlib.Core.List.{List, [], ◌∷◌, map, Memᴰ}
 use Rattle.maps.specs.Lists.{concat}
-use Rattle.maps.specs.Sheet.{Sheet, input, Node, node, is_logic, clock_to_qof}
+use Rattle.maps.specs.Sheet.{Sheet, input, Node, node, is_logic, clock_to_q_of}
 use Rattle.blif.specs.Words.{Word, Line, lines_of}
 use Rattle.blif.specs.Subset.{Stage, first, Statement, statement, stage_after}
 use Rattle.blif.specs.Names.{Definition, definition, defined, OutputName, output_names}
@@ -62,7 +62,7 @@ pub record IsOutput (os : List OutputName) (w : Word) : Type 0 where
 pub record DefinedNode (ds : List Definition) (os : List OutputName) (d i : ℕ) (v : Node) : Type 0 where
   pub kind : v.kind ≡ (get_or ds i no_definition).kind
   pub delay : v.delay ≡ cond (is_logic v.kind) d 0
-  pub clock_to_q : clock_to_qof v.kind ≡ 0
+  pub clock_to_q : clock_to_q_of v.kind ≡ 0
   pub operands : Pairs (StandsFor ds i) (get_or ds i no_definition).reads v.operands
   pub marked : v.output ≡ true → IsOutput os (get_or ds i no_definition).name
   pub unmarked : IsOutput os (get_or ds i no_definition).name → v.output ≡ true

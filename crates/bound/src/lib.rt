@@ -1,4 +1,6 @@
 // The lower bounds on a node's label: its own label, its operands and the differences into it.
+#![tactic(auto)]
+
 mod arrive;
 mod asked;
 

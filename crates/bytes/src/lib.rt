@@ -1,4 +1,6 @@
 // What a call hands over: numbers as bytes, and the bytes into the caller's buffer where it has room.
+#![tactic(auto)]
+
 ghost use Rattle.std.specs.Prelude.{◌≡◌, ◌++◌, ◌+◌, ◌<◌, ◌≤◌, length, take, drop};
 ghost use Rattle.maps.specs.Number.{encoded, bytes_for, values};
 ghost use Rattle.maps.specs.Outcome.{within};
@@ -8,7 +10,7 @@ ghost use Rattle.bytes.specs.Outcome.{Answered, number_answered, place_answered}
 use types::Refusal;
 
 // What a call comes to: the length of what was written, or the refusal.
-#[derive(Drop)]
+#[derive(Clone, Copy)]
 pub enum Outcome {
     Written(usize),
     Refused(Refusal),
@@ -65,7 +67,7 @@ pub fn hand_over(bytes: &[u8], buffer: &mut [u8], n: usize) -> Outcome
 
 // Number and place, for C.
 #[repr(C)]
-#[derive(Drop)]
+#[derive(Clone, Copy)]
 pub struct Answer {
     pub number: u64,
     pub place: u64,

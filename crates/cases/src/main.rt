@@ -1,4 +1,6 @@
 // The cases of document 01, each planned and printed.
+#![tactic(auto)]
+
 fn main() {
     // the hall sheet
     report::report(

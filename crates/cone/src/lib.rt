@@ -1,6 +1,8 @@
 // The cone of a node inside marked nodes: the walk that finds it, and the test whether its cut fits.
 // A node whose mark is not 0 may be a member. `part` holds 0 at a node that is not met, 1 at a member, 2 at a leaf. Ids fall from a node to
 // its operands, and each member's operands are walked once. `spare` is how many more leaves make the cut too wide: at 0 the walk is over.
+#![tactic(auto)]
+
 ghost use Rattle.std.specs.Prelude.{◌<◌, ◌≤◌, ◌≡◌, length, take};
 ghost use Rattle.maps.specs.Sheet.{Sheet};
 ghost use Rattle.rows.specs.Table.{Falling};

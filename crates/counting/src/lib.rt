@@ -1,4 +1,6 @@
 // A copy of the test whether a cone's cut fits (`cone::cut_fits`), function by function, that counts in `looked` the operands it looks at.
+#![tactic(auto)]
+
 ghost use Rattle.std.specs.Prelude.{ℕ, ◌+◌, ◌-◌, ◌<◌, ◌≤◌, ◌≡◌, Bool, length};
 ghost use Rattle.maps.specs.Limits.{operands_most};
 ghost use Rattle.maps.specs.Sheet.{Sheet, size};

@@ -1,4 +1,6 @@
 // Used nodes and chosen cuts, for any legal labels.
+#![tactic(auto)]
+
 ghost use Rattle.std.specs.Prelude.{◌≡◌, true, [], ◌∷◌, ℕ, ◌+◌, ◌<◌, ◌≤◌, length, take, List};
 ghost use Rattle.maps.specs.Limits.{leaves_range};
 ghost use Rattle.maps.specs.Lists.{All};

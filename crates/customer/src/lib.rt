@@ -1,5 +1,7 @@
 // The customer: every exported call of the library, called with nothing asked of the caller, and what the customer is promised of it. A call
 // whose own contract no longer gives a promise fails here.
+#![tactic(auto)]
+
 mod importing;
 mod planning;
 mod probing;

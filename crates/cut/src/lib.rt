@@ -1,4 +1,6 @@
 // Minimum cuts from flows: the marks of a search that failed are a cut, whose leaves are those that were entered and are not inside.
+#![tactic(auto)]
+
 ghost use Rattle.std.specs.Prelude.{◌≡◌, Bool, ◌++◌, ℕ, ◌+◌, ◌<◌, ◌≤◌, length, take};
 ghost use Rattle.maps.specs.Sheet.{Sheet, is_logic};
 ghost use Rattle.types.specs.Code.{kind_meant};

@@ -7,7 +7,7 @@ use native.Mathlib.Omega.{arith}
 use lib.ListN.{length, length-append}
 use borrow.Author.Tests.{ltb-true}
 use Rattle.maps.specs.Lists.{all, equal}
-use Rattle.maps.specs.Sheet.{is_logic, latency_of, clock_to_qof}
+use Rattle.maps.specs.Sheet.{is_logic, latency_of, clock_to_q_of}
 use Rattle.maps.specs.WellFormed.{code_of}
 use Rattle.maps.proofs.Over.{and-true}
 use Rattle.records.specs.Rows.{node_place}
@@ -31,7 +31,7 @@ module _ (d : ℕ) (m : Word → Bool) where
   rows_append e (x ∷ xs) ys =
       let n : e + length x.reads + length (reads_of xs) ≡ e + length (x.reads ++ reads_of xs) = omega (arith, length-append x.reads (reads_of xs)) in
       ap
-      (λ (rows : List ℕ). code_of x.kind ∷ cond (m x.name) 1 0 ∷ cond (is_logic x.kind) d 0 ∷ latency_of x.kind ∷ (e + length x.reads) ∷ clock_to_qof x.kind ∷ rows)
+      (λ (rows : List ℕ). code_of x.kind ∷ cond (m x.name) 1 0 ∷ cond (is_logic x.kind) d 0 ∷ latency_of x.kind ∷ (e + length x.reads) ∷ clock_to_q_of x.kind ∷ rows)
       (rows_append (e + length x.reads) xs ys ∙ ap (λ (k : ℕ). rows_from d m (e + length x.reads) xs ++ rows_from d m k ys) n)
 
   pub rows-length : (e : ℕ) (xs : List Definition) → length (rows_from d m e xs) ≡ node_place (length xs)

@@ -1,4 +1,6 @@
 // The definitions of a line, kept behind those of the lines before.
+#![tactic(auto)]
+
 ghost use Rattle.std.specs.Prelude.{◌≡◌, true, false, List, [], ◌∷◌, ◌++◌, map, ℕ, ◌+◌, ◌*◌, ◌<◌, ◌≤◌, leb, length, get_or, take, drop};
 ghost use Rattle.maps.specs.Lists.{all};
 ghost use Rattle.maps.specs.Limits.{size_range, operands_most};
@@ -27,7 +29,7 @@ const LATCH: Kind = Kind::Box {
 };
 
 // How many nodes and operands are kept.
-#[derive(Drop)]
+#[derive(Clone, Copy)]
 pub struct Size {
     pub nodes: usize,
     pub operands: usize,

@@ -1,4 +1,6 @@
 // Whether the words of one line are all different. Their positions are sorted by merging; a word that comes twice meets itself in a merge.
+#![tactic(auto)]
+
 ghost use Rattle.std.specs.Prelude.{◌+◌, ◌≤◌, ◌<◌, ◌≡◌, true, [], ◌++◌, length, take, drop};
 ghost use Rattle.blif.specs.Names.{fresh};
 ghost use Rattle.blif.specs.Scan.{name_at, words_at};
@@ -10,7 +12,7 @@ use scan::{after_blanks, after_word, ends_line, joins, name_next};
 // The byte that begins a comment.
 const COMMENT: u8 = 35;
 
-#[derive(Drop)]
+#[derive(Clone, Copy)]
 pub enum Order {
     Less,
     Equal,
@@ -202,7 +204,7 @@ fn distinct_few(text: &[u8], at: usize, count: usize) -> bool
 }
 
 // What stands at a position of a line.
-#[derive(Drop)]
+#[derive(Clone, Copy)]
 pub enum Piece {
     End,
     Join,

@@ -1,4 +1,6 @@
 // The parts of a sheet that have a fixed count of numbers: the header, a node before its operand ids, a difference.
+#![tactic(auto)]
+
 ghost use Rattle.std.specs.Prelude.{◌+◌, ◌<◌, ◌≤◌, length};
 ghost use Rattle.maps.specs.Limits.{top_range, size_range};
 ghost use Rattle.maps.specs.Write.{header_entries, head_entries};

@@ -1,4 +1,6 @@
 // A number of the sheet, judged as the reader judges it and then written.
+#![tactic(auto)]
+
 ghost use Rattle.std.specs.Prelude.{[], ◌∷◌, ◌≡◌, Bool, ℕ, ◌<◌, ◌≤◌};
 ghost use Rattle.maps.specs.Number.{values, bytes_for};
 ghost use Rattle.maps.specs.Limits.{size_range};
@@ -13,14 +15,14 @@ use ranges::{Field, Span, range_of};
 use types::Refusal;
 
 // Where writing stands: the position of the next byte, and which number of the sheet comes next.
-#[derive(Drop)]
+#[derive(Clone, Copy)]
 pub struct Position {
     pub at: usize,
     pub number: usize,
 }
 
 // How far writing came.
-#[derive(Drop)]
+#[derive(Clone, Copy)]
 pub enum Progress {
     Next(Position),
     Refused(Refusal),

@@ -2,6 +2,8 @@
 // A unit of flow goes from v down through nodes that are inside, and leaves at a leaf; each leaf carries one unit. `above[x]` is the node
 // from which x is reached with a unit, or x where it carries none. `seen` marks what a search has met: at u that u is inside, at u + 256
 // that u was entered from above.
+#![tactic(auto)]
+
 ghost use Rattle.std.specs.Prelude.{◌≡◌, ◌⊎◌, ℕ, ◌+◌, ◌<◌, ◌≤◌, length};
 ghost use Rattle.rows.specs.Cells.{cell};
 ghost use Rattle.rows.specs.Table.{count_in, operand_in, Falling};

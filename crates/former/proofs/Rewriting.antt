@@ -9,7 +9,7 @@ use lib.Dec.{eqb}
 use lib.ListN.{length, get_or}
 use borrow.Author.Tests.{le-leb}
 use Rattle.maps.specs.Lists.{All, concat}
-use Rattle.maps.specs.Sheet.{Sheet, Node, Difference, no_node, box_in, clock_to_q, clock_to_qof}
+use Rattle.maps.specs.Sheet.{Sheet, Node, Difference, no_node, box_in, clock_to_q, clock_to_q_of}
 use Rattle.maps.specs.Number.{Bytes, values}
 use Rattle.maps.specs.Limits.{ranges_of}
 use Rattle.maps.specs.Form.{among, under, passes, Form, done, ◌>>=◌, asked, each, times, read, Leads}
@@ -174,14 +174,14 @@ zero-passes top (suc zero) lat = refl
 zero-passes top (suc (suc k)) zero = refl
 zero-passes top (suc (suc k)) (suc lat) = le-leb 0 top (omega arith)
 
-zero-back : (kind lat : ℕ) → clock_to_qof (kind_of kind lat 0) ≡ 0
+zero-back : (kind lat : ℕ) → clock_to_q_of (kind_of kind lat 0) ≡ 0
 zero-back zero lat = refl
 zero-back (suc zero) lat = refl
 zero-back (suc (suc k)) lat = refl
 
 -- q of the node is 0
 abbrev Zero : Node → Type 0
-Zero v = clock_to_qof v.kind ≡ 0
+Zero v = clock_to_q_of v.kind ≡ 0
 
 -- also past the last node
 zero-at : (vs : List Node) → All Zero vs → (v : ℕ) → Zero (get_or vs v no_node)

@@ -1,4 +1,6 @@
 // Grounds 10 and 11 of a line: whether its names are as they may be, and whether it keeps the limits.
+#![tactic(auto)]
+
 ghost use Rattle.std.specs.Prelude.{◌≡◌, ◌⊎◌, ◌+◌, ◌≤◌, leb, length, take, drop};
 ghost use Rattle.maps.specs.Lists.{all, keep};
 ghost use Rattle.blif.specs.Scan.{words_at};
@@ -115,7 +117,7 @@ pub fn within_limits(
 }
 
 // The ground on which a line is faulty.
-#[derive(Drop)]
+#[derive(Clone, Copy)]
 pub enum Ground {
     Good,
     Subset,

@@ -2,6 +2,8 @@
 // Held are the nodes of a step below the shift, and each node with a held operand at most the shift before it or a held difference without a spare
 // shift. The shift is 1, or the period where boxes have windows.
 // The marks are found by sweeps over the nodes, ids rising and falling in turn, until one finds nothing more.
+#![tactic(auto)]
+
 ghost use Rattle.std.specs.Prelude.{◌≡◌, ℕ, ◌<◌, ◌≤◌, length};
 ghost use Rattle.rows.specs.Cells.{Ends};
 ghost use Rattle.rows.specs.Table.{Falling};

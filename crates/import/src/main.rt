@@ -1,9 +1,11 @@
 // Imports a BLIF text from standard input, with K, T, H, a table's and a level's picoseconds as arguments, and writes its sheet to standard output. The
 // line of a refusal goes to standard error, so that a pipe has sheets only.
+#![tactic(auto)]
+
 use bytes::Outcome;
 
 // An argument: a number, or anything else.
-#[derive(Drop)]
+#[derive(Clone, Copy)]
 enum Argument {
     Number(u32),
     Other,

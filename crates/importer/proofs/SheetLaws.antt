@@ -8,7 +8,7 @@ use native.Mathlib.Nat.{not-suc-le-zero}
 use lib.ListN.{length, get_or, take, drop, length-append, length-map, get_or-map}
 use lib.Seq.{take-suc, split_at, take_at, drop_at, ext_get_or}
 use Rattle.maps.specs.Lists.{below}
-use Rattle.maps.specs.Sheet.{is_logic, latency_of, clock_to_qof}
+use Rattle.maps.specs.Sheet.{is_logic, latency_of, clock_to_q_of}
 use Rattle.maps.specs.WellFormed.{code_of}
 use Rattle.maps.specs.Records.{NodeRecord, node_record, records_of}
 use Rattle.maps.specs.Write.{spelling, writing}
@@ -62,7 +62,7 @@ module _ (d : ℕ) (m : Word → Bool) where
         delay = cond (is_logic x.kind) d 0;
         latency = latency_of x.kind;
         end = e;
-        clock = clock_to_qof x.kind;
+        clock = clock_to_q_of x.kind;
       }
 
   row-later : (e : ℕ) (x : Definition) (xs : List Definition) (i : ℕ) → node_row (rows_from d m e (x ∷ xs)) (suc i) ≡ node_row (rows_from d m (e + length x.reads) xs) i
@@ -121,7 +121,7 @@ module _ (d : ℕ) (m : Word → Bool) where
       mark = cond (m x.name) 1 0;
       delay = cond (is_logic x.kind) d 0;
       latency = latency_of x.kind;
-      clock_to_q = clock_to_qof x.kind;
+      clock_to_q = clock_to_q_of x.kind;
       operands = map f x.reads;
     }
 

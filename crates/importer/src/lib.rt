@@ -1,4 +1,6 @@
 // The import of a BLIF text: its model, written as a sheet.
+#![tactic(auto)]
+
 mod call;
 mod caller;
 

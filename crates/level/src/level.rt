@@ -19,7 +19,7 @@ use rows::{Graph, Header, delay_in, kind_in};
 use types::{Label, Level, Step};
 
 // The levels that are left to ask about, and how far from the high end the next question is.
-#[derive(Drop)]
+#[derive(Clone, Copy)]
 pub struct Span {
     pub low: Level,
     pub high: Level,

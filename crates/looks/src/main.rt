@@ -1,6 +1,8 @@
 // Reads a sheet from standard input, stopping after 16,384 bytes, and prints the line of its refusal or, for each logic node with the output mark, a
 // line on its cone with all logic that can be inside: the leaves of its cut, and how many operands are looked at by a walk to the end (before) and
 // by the test whether the cut fits (now).
+#![tactic(auto)]
+
 ghost use Rattle.std.specs.Prelude.{◌<◌, ◌≤◌};
 ghost use Rattle.rows.specs.Table.{Falling};
 ghost use Rattle.looks.specs.Counted.{Counted};
@@ -40,7 +42,7 @@ fn print_leaves(count: u32, k: u32) {
 }
 
 // What is shown of a cone: the leaves of its cut, or one more than k, and the operands looked at.
-#[derive(Drop)]
+#[derive(Clone, Copy)]
 struct Counts {
     leaves: u32,
     before: u32,

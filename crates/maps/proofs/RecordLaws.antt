@@ -11,7 +11,7 @@ use lib.IntN.{ℤ, pos, negsuc}
 use lib.ListN.{length, get_or, length-map}
 use borrow.Author.Tests.{le-leb, lt-ltb}
 use Rattle.maps.specs.Lists.{All, concat}
-use Rattle.maps.specs.Sheet.{Sheet, Kind, input, logic, box, Node, Difference, no_node, Window, box_in, latency_of, clock_to_qof}
+use Rattle.maps.specs.Sheet.{Sheet, Kind, input, logic, box, Node, Difference, no_node, Window, box_in, latency_of, clock_to_q_of}
 use Rattle.maps.specs.Limits.{Range, kind_range, mark_range, id_range, weight_most, weight_range, ranges_of, box_range, from_range, to_range}
 use Rattle.maps.specs.Form.{among, boxed, under, passes}
 use Rattle.maps.specs.Read.{kind_of, next_id}
@@ -58,7 +58,7 @@ records-again R p =
     rw (nodes-again R.top 0 R.nodes v.0, differences-again R.differences)
 
 -- Sheet, records, sheet: of plus and minus one is 0.
-kind-again : (k : Kind) → kind_of (code_of k) (latency_of k) (clock_to_qof k) ≡ k
+kind-again : (k : Kind) → kind_of (code_of k) (latency_of k) (clock_to_q_of k) ≡ k
 kind-again input = refl
 kind-again logic = refl
 kind-again (box lat q) = refl

@@ -7,7 +7,7 @@ use native.Mathlib.Omega.{arith}
 use lib.Dec.{eqb}
 use lib.ListN.{length, length-map}
 use borrow.Author.Tests.{eqb-true, eqb-false}
-use Rattle.maps.specs.Sheet.{Sheet, Node, Difference, Window, box_in, latency_of, clock_to_qof}
+use Rattle.maps.specs.Sheet.{Sheet, Node, Difference, Window, box_in, latency_of, clock_to_q_of}
 use Rattle.maps.specs.Limits.{leaves_range, top_range, horizon_range, size_range, count_range, kind_range, mark_range, id_range, weight_range, ranges_of, period_range, windows_range, box_range, from_range, to_range}
 use Rattle.maps.specs.Form.{Rule, among, boxed, under, passes, Form, done, ask, ◌>>=◌, asked, each, times, chain, Leads}
 use Rattle.maps.specs.Read.{kind_of, Head, node_of, head_form, node_form, ahead, back, difference_form, window_form, next_id, Cycle, cycle_of, cycle_form, Header, header_form, sheet_of, sheet_form}
@@ -119,7 +119,7 @@ mark-back (suc zero) l = refl
 mark-back (suc (suc x)) l = absurd (omega arith)
 
 abbrev head_list : Head → List ℕ
-head_list h = code_of h.kind ∷ cond h.output 1 0 ∷ h.delay ∷ latency_of h.kind ∷ clock_to_qof h.kind ∷ h.count ∷ []
+head_list h = code_of h.kind ∷ cond h.output 1 0 ∷ h.delay ∷ latency_of h.kind ∷ clock_to_q_of h.kind ∷ h.count ∷ []
 
 shows_head : (top : ℕ) → Shows (λ h ns. ns ≡ head_list h) (head_form top)
 unfolding head_form
@@ -134,7 +134,7 @@ shows_head top =
     (let c : code_of (kind_of kind lat q) ≡ kind = coded kind lat q (in-range kind_range kind hk.good).most in
     let m : cond (eqb mark 1) 1 0 ≡ mark = mark-back mark (in-range mark_range mark hm.good).most in
     let l : latency_of (kind_of kind lat q) ≡ lat = latency-back top kind lat q (in-range (ranges_of top kind).latency lat hl.good) in
-    let z : clock_to_qof (kind_of kind lat q) ≡ q = clock-back top kind lat q (in-range ((ranges_of top kind).clock_to_q lat) q hq.good) in
+    let z : clock_to_q_of (kind_of kind lat q) ≡ q = clock-back top kind lat q (in-range ((ranges_of top kind).clock_to_q lat) q hq.good) in
     rw (hk.alone, hm.alone, hd.alone, hl.alone, hq.alone, hc.alone, c, m, l, z))
 
 abbrev node_list : (top own : ℕ) → Node → List ℕ

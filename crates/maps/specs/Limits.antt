@@ -73,9 +73,9 @@ abbrev pub ready_most : ℕ
 ready_most = (size_range.high - 1) * weight_most + latency_most
 
 -- document 02, U5: q is "0 to T for a box with lat of 1 or more, 0 for all others"
-abbrev pub clock_to_qrange : (top lat : ℕ) → Range
-clock_to_qrange top zero = range 0 0
-clock_to_qrange top (suc l) = range 0 top
+abbrev pub clock_to_q_range : (top lat : ℕ) → Range
+clock_to_q_range top zero = range 0 0
+clock_to_q_range top (suc l) = range 0 top
 
 -- the table: d, lat, q by lat, and operands of a node
 pub record Ranges : Type 0 where
@@ -89,4 +89,4 @@ abbrev pub ranges_of : (top kind : ℕ) → Ranges
 ranges_of top zero = record { delay = range 0 0; latency = range 0 0; clock_to_q = λ lat. range 0 0; operands = range 0 0 }
 ranges_of top (suc zero) = record { delay = range 1 top; latency = range 0 0; clock_to_q = λ lat. range 0 0; operands = range 1 operands_most }
 ranges_of top (suc (suc k)) =
-    record { delay = range 0 top; latency = range 0 latency_most; clock_to_q = clock_to_qrange top; operands = range 0 operands_most }
+    record { delay = range 0 top; latency = range 0 latency_most; clock_to_q = clock_to_q_range top; operands = range 0 operands_most }

@@ -1,6 +1,6 @@
 -- Document 02, U1: "Our rule editor keeps a circuit as records." The records, the sheet that they mean, and the records of a sheet.
 use Rattle.std.specs.Prelude.{ℕ, zero, suc, cond, List, map, eqb, ℤ, pos, negsuc, length}
-use Rattle.maps.specs.Sheet.{Sheet, Node, Difference, Window, latency_of, clock_to_qof}
+use Rattle.maps.specs.Sheet.{Sheet, Node, Difference, Window, latency_of, clock_to_q_of}
 use Rattle.maps.specs.Read.{kind_of, Head, node_of}
 use Rattle.maps.specs.WellFormed.{code_of}
 
@@ -68,7 +68,7 @@ node_record v =
       mark = cond v.output 1 0;
       delay = v.delay;
       latency = latency_of v.kind;
-      clock_to_q = clock_to_qof v.kind;
+      clock_to_q = clock_to_q_of v.kind;
       operands = v.operands;
     }
 

@@ -14,14 +14,14 @@ use subset::{Stage, stage_after, statement_at};
 use types::Refusal;
 
 // Where the next line stands, and how much is kept.
-#[derive(Drop)]
+#[derive(Clone, Copy)]
 pub struct State {
     pub stage: Stage,
     pub size: Size,
 }
 
 // What a line leads to.
-#[derive(Drop)]
+#[derive(Clone, Copy)]
 pub enum Turn {
     Next(State),
     Refused(Refusal),

@@ -13,7 +13,7 @@ use subset::Stage;
 use types::Refusal;
 
 // How much is kept of a model, or why there is none.
-#[derive(Drop)]
+#[derive(Clone, Copy)]
 pub enum Model {
     Read(Size),
     Refused(Refusal),

@@ -1,5 +1,7 @@
 // Texts of document 02's BLIF on standard input, a byte 28 between two: each is imported for K = 4, T = 8, H = 9 and d = 2, and its sheet printed as
 // numbers, or the line of its refusal.
+#![tactic(auto)]
+
 use bytes::Outcome;
 
 const SEPARATOR: u8 = 28;

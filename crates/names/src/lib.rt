@@ -1,4 +1,6 @@
 // The names that a text has defined so far, found by hash.
+#![tactic(auto)]
+
 ghost use Rattle.std.specs.Prelude.{◌+◌, ◌<◌, ◌≤◌, ◌≡◌, false, [], ◌∷◌, ◌++◌, length};
 ghost use Rattle.maps.specs.Limits.{size_range};
 ghost use Rattle.maps.specs.Lists.{equal};

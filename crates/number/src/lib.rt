@@ -1,4 +1,6 @@
 // Numbers of a sheet, read at a cursor.
+#![tactic(auto)]
+
 ghost use Rattle.std.specs.Prelude.{◌≡◌, length};
 ghost use Rattle.maps.specs.Number.{number, refusal};
 ghost use Rattle.maps.specs.Form.{in_range, operand};
@@ -14,13 +16,13 @@ mod reader;
 pub use reader::{Reader, next_number, read_number, reader_at};
 
 // A position in the sheet.
-#[derive(Drop)]
+#[derive(Clone, Copy)]
 pub struct Cursor {
     pub at: usize,
 }
 
 // What reading a number gives: the value with the next position, or the refusal.
-#[derive(Drop)]
+#[derive(Clone, Copy)]
 pub enum Number {
     Value { value: u32, next: Cursor },
     Refused(Refusal),

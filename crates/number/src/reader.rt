@@ -6,7 +6,7 @@ ghost use Rattle.number.specs.Code.{number_meant};
 
 use crate::{Cursor, Number, number_at};
 
-#[derive(Drop)]
+#[derive(Clone, Copy)]
 pub struct Reader<'a> {
     pub sheet: &'a [u8],
     pub at: Cursor,

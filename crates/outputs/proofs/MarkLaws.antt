@@ -7,7 +7,7 @@ use native.Mathlib.Omega.{arith}
 use lib.Dec.{eqb}
 use lib.ListN.{length, get_or, set}
 use Rattle.maps.specs.Lists.{All, equal, concat}
-use Rattle.maps.specs.Sheet.{is_logic, latency_of, clock_to_qof}
+use Rattle.maps.specs.Sheet.{is_logic, latency_of, clock_to_q_of}
 use Rattle.maps.specs.WellFormed.{code_of}
 use Rattle.maps.proofs.Over.{same_test}
 use Rattle.maps.proofs.Member.{All-map, All-ids, everywhere, or_right}
@@ -49,7 +49,7 @@ module _ (d : ℕ) where
 
   -- a row with its mark, and the rows after it
   abbrev with_row : (e : ℕ) → Definition → (mark : Bool) → (rest : List ℕ) → List ℕ
-  with_row e x b rest = code_of x.kind ∷ cond b 1 0 ∷ cond (is_logic x.kind) d 0 ∷ latency_of x.kind ∷ e ∷ clock_to_qof x.kind ∷ rest
+  with_row e x b rest = code_of x.kind ∷ cond b 1 0 ∷ cond (is_logic x.kind) d 0 ∷ latency_of x.kind ∷ e ∷ clock_to_q_of x.kind ∷ rest
 
   module _ (m : Word → Bool) (w : Word) where
     -- A name that is defined once is marked in its own row, and in no other one.

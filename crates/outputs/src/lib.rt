@@ -1,4 +1,6 @@
 // The outputs of a model: their nodes are marked, or the first that no line defines is found.
+#![tactic(auto)]
+
 ghost use Rattle.std.specs.Prelude.{◌≡◌, false, ℕ, ◌≤◌, ◌<◌, length, take};
 ghost use Rattle.records.specs.Rows.{node_place};
 ghost use Rattle.blif.specs.Scan.{words_at};
@@ -14,7 +16,7 @@ use records::mark_output;
 use scan::{after_blanks, after_line, after_word, line_ends, line_number, spells};
 
 // How marking ends: all outputs are marked, or the first that is not defined stands on this line.
-#[derive(Drop)]
+#[derive(Clone, Copy)]
 pub enum Marked {
     All,
     Undefined(usize),

@@ -1,5 +1,7 @@
 // A pass: every node in id order gets the least label that its conditions and the present labels force. `first` has the lists of the differences
 // that are heeded.
+#![tactic(auto)]
+
 ghost use Rattle.std.specs.Prelude.{◌≡◌, true, ℕ, ◌<◌, ◌≤◌};
 ghost use Rattle.types.specs.Code.{label_of};
 ghost use Rattle.bound.specs.Bound.{Summed};
@@ -13,7 +15,7 @@ use sweep::some_fails_below;
 use types::{Kind, Label, Level, Step};
 
 // What a pass comes to. It stops where it is not to be whole and a difference that it has broken leads back to a node that had its turn.
-#[derive(Drop)]
+#[derive(Clone, Copy)]
 pub enum Course {
     Late,
     Stopped,

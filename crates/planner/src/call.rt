@@ -23,7 +23,7 @@ use types::Refusal;
 use writing::{PlanBytes, write_plan};
 
 // A plan of so many bytes, or why there is none.
-#[derive(Drop)]
+#[derive(Clone, Copy)]
 pub enum Draft {
     Plan(usize),
     Refused(Refusal),

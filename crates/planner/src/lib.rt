@@ -1,4 +1,6 @@
 // The library: the planning call, the call that writes a sheet and the one that imports a BLIF text, each with its C export.
+#![tactic(auto)]
+
 mod call;
 mod import;
 mod store;

@@ -8,7 +8,7 @@ use sheet::{Reading, read_sheet};
 
 // Document 01's number and place; 0 and 0 where the sheet reads.
 #[repr(C)]
-#[derive(Drop)]
+#[derive(Clone, Copy)]
 pub struct ReadAnswer {
     pub number: u64,
     pub place: u64,

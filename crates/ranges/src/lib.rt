@@ -1,17 +1,19 @@
 // The ranges of the sheet's fields, each once: those of every field that is read alike in each node, and document 01's table by kind. Whoever
 // reads or writes a sheet takes them from here.
+#![tactic(auto)]
+
 ghost use Rattle.std.specs.Prelude.{◌≡◌, min, max};
 ghost use Rattle.ranges.specs.Ranges.{kind_ranges, span_of, clock_meant, field_range};
 
 // The values from low to high.
-#[derive(Drop)]
+#[derive(Clone, Copy)]
 pub struct Span {
     pub low: u32,
     pub high: u32,
 }
 
 // The ranges of a node's fields: d, lat, q where lat is 1 or more, operand count. A delay and a q are also at most T.
-#[derive(Drop)]
+#[derive(Clone, Copy)]
 pub struct Ranges {
     pub delay: Span,
     pub latency: Span,
@@ -43,7 +45,7 @@ const KIND_RANGES: [Ranges; 3] = [
 
 // The fields whose range does not depend on a kind: K, T, H, n, m, a node's kind and mark, an id (also below n), the w of a difference; P, how many
 // entries of windows there are (also at most n), and an entry's from (also below P) and to (also above from and at most P).
-#[derive(Drop)]
+#[derive(Clone, Copy)]
 pub enum Field {
     Leaves,
     Top,

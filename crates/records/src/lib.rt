@@ -1,5 +1,7 @@
 // The records as C hands them over: rows of six numbers for the nodes, of three for the differences and of three for the windows, and one array of
 // operand ids.
+#![tactic(auto)]
+
 ghost use Rattle.std.specs.Prelude.{◌≡◌, ◌+◌, ◌/◌, ◌<◌, ◌≤◌, [], ◌∷◌, ◌++◌, length, take, set};
 ghost use Rattle.maps.specs.Write.{code_of_weight};
 ghost use Rattle.records.specs.Rows.{node_place, mark_place, difference_place, window_place, rows_in, node_row, row_numbers, difference_row, window_row, end_of, box_at, signed};
@@ -14,7 +16,7 @@ const DIFFERENCE: usize = 3;
 const WINDOW: usize = 3;
 
 // A node without its operands: kind, output mark, d, lat, where its operands end in the array of operand ids, and its q.
-#[derive(Drop)]
+#[derive(Clone, Copy)]
 pub struct NodeRow {
     pub kind: u32,
     pub output: u32,
@@ -25,7 +27,7 @@ pub struct NodeRow {
 }
 
 // A difference; w as the 32 bits of a signed number.
-#[derive(Drop)]
+#[derive(Clone, Copy)]
 pub struct DifferenceRow {
     pub from: u32,
     pub to: u32,
@@ -33,7 +35,7 @@ pub struct DifferenceRow {
 }
 
 // A window: the box, and from which remainder of its step by the period to which.
-#[derive(Drop)]
+#[derive(Clone, Copy)]
 pub struct WindowRow {
     pub id: u32,
     pub from: u32,

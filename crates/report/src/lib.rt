@@ -1,4 +1,6 @@
 // The listing of a sheet's plan, or the line of its refusal, on standard output.
+#![tactic(auto)]
+
 ghost use Rattle.std.specs.Prelude.{◌≡◌};
 ghost use Rattle.maps.specs.Outcome.{outcome, outcome_number};
 ghost use Rattle.types.specs.Code.{number_of};
@@ -8,7 +10,7 @@ use number::{Cursor, Number, number_at};
 use types::Refusal;
 
 // A number of the plan and where the next begins; past the end, 0 at the end.
-#[derive(Drop)]
+#[derive(Clone, Copy)]
 struct Item {
     value: u32,
     next: Cursor,

@@ -1,4 +1,6 @@
 // The cases of document 02, each planned and printed.
+#![tactic(auto)]
+
 fn main() {
     // numbers of three bytes: 80 80 00
     report::report(b"\x80\x80\x00");

@@ -9,7 +9,7 @@ use lib.Dec.{eqb, ltb}
 use lib.ListN.{length, get_or, get_or-eq_default}
 use borrow.Author.Tests.{eqb-true, ne_eqb, ltb-true, ltb-false}
 use Rattle.maps.specs.Lists.{All}
-use Rattle.maps.specs.Sheet.{Sheet, Kind, input, logic, box, is_logic, latency_of, clock_to_qof, Node, no_node, Window, box_in, node, size, window}
+use Rattle.maps.specs.Sheet.{Sheet, Kind, input, logic, box, is_logic, latency_of, clock_to_q_of, Node, no_node, Window, box_in, node, size, window}
 use Rattle.maps.specs.Read.{kind_of}
 use Rattle.maps.specs.Limits.{operands_most, ranges_of}
 use Rattle.maps.specs.WellFormed.{Within, code_of, WellNode, WellFormed}
@@ -154,7 +154,7 @@ pub logic-one : (k : Kind) → is_logic k ≡ true → code_of k ≡ 1
 logic-one k e = eqb-true _ _ (logic-code k ∙ e)
 
 -- the kind of a node, from its code, its latency and its q
-pub kind-back : (k : Kind) → kind_of (code_of k) (latency_of k) (clock_to_qof k) ≡ k
+pub kind-back : (k : Kind) → kind_of (code_of k) (latency_of k) (clock_to_q_of k) ≡ k
 kind-back input = refl
 kind-back logic = refl
 kind-back (box lat q) = refl

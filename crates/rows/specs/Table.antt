@@ -1,6 +1,6 @@
 -- The two tables that a sheet is read into: a row of sixteen numbers for a node, its window among them, and of four for a difference, and 0 elsewhere.
 use Rattle.std.specs.Prelude.{ℕ, ◌+◌, ◌*◌, ◌≤◌, ◌<◌, ◌≡◌, Bool, cond, List, [], ◌∷◌, map, eqb, leb, length, get_or, set, replicate}
-use Rattle.maps.specs.Sheet.{Sheet, Kind, Node, Difference, Window, size, node, window, latency, latency_of, clock_to_q, clock_to_qof}
+use Rattle.maps.specs.Sheet.{Sheet, Kind, Node, Difference, Window, size, node, window, latency, latency_of, clock_to_q, clock_to_q_of}
 use Rattle.maps.specs.Read.{kind_of, Head, Header}
 use Rattle.maps.specs.WellFormed.{code_of}
 use Rattle.maps.specs.Limits.{operands_most}
@@ -55,12 +55,12 @@ mark_of b = cond b 1 0
 
 -- kind, output mark, d, lat, q, operand count
 abbrev pub head_row : Head → List ℕ
-head_row h = code_of h.kind ∷ mark_of h.output ∷ h.delay ∷ latency_of h.kind ∷ clock_to_qof h.kind ∷ h.count ∷ []
+head_row h = code_of h.kind ∷ mark_of h.output ∷ h.delay ∷ latency_of h.kind ∷ clock_to_q_of h.kind ∷ h.count ∷ []
 
 -- the same and the operands
 abbrev pub node_row : Node → List ℕ
 node_row v =
-    code_of v.kind ∷ mark_of v.output ∷ v.delay ∷ latency_of v.kind ∷ clock_to_qof v.kind ∷ length v.operands ∷ v.operands
+    code_of v.kind ∷ mark_of v.output ∷ v.delay ∷ latency_of v.kind ∷ clock_to_q_of v.kind ∷ length v.operands ∷ v.operands
 
 abbrev pub difference_row : Difference → List ℕ
 difference_row d = d.from ∷ d.to ∷ d.plus ∷ d.minus ∷ []

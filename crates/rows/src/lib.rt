@@ -1,6 +1,8 @@
 // The sheet as the code holds it: its header, and two flat tables. Where each number of a node and of a difference stands is known here alone.
+#![tactic(auto)]
+
 ghost use Rattle.std.specs.Prelude.{◌≡◌, [], ◌∷◌, ◌+◌, ◌≤◌, ◌<◌, eqb, length};
-ghost use Rattle.maps.specs.Sheet.{latency_of, clock_to_qof};
+ghost use Rattle.maps.specs.Sheet.{latency_of, clock_to_q_of};
 ghost use Rattle.maps.specs.WellFormed.{code_of};
 ghost use Rattle.maps.specs.Read.{kind_of};
 ghost use Rattle.types.specs.Code.{kind_meant};
@@ -10,7 +12,7 @@ ghost use Rattle.rows.specs.Table.{mark_of, store_from, head_row, difference_row
 use types::{Kind, Level, Node, Step};
 
 // K, T, H, n, m; P and the count of entries.
-#[derive(Drop)]
+#[derive(Clone, Copy)]
 pub struct Header {
     pub leaves: u32,
     pub top: u32,
@@ -54,7 +56,7 @@ const PLUS: usize = 2;
 const MINUS: usize = 3;
 
 // A difference (u, v, w): w is plus - minus.
-#[derive(Drop)]
+#[derive(Clone, Copy)]
 pub struct Difference {
     pub from: u32,
     pub to: u32,
@@ -63,7 +65,7 @@ pub struct Difference {
 }
 
 // The remainders of steps by the period in which a node may start: from `from` on and below `to`.
-#[derive(Drop)]
+#[derive(Clone, Copy)]
 pub struct Window {
     pub from: u32,
     pub to: u32,
@@ -106,7 +108,7 @@ pub fn latency_of(kind: Kind) -> u32
 }
 
 pub fn clock_to_q_of(kind: Kind) -> u32
-    ensures { result ≡ clock_to_qof (kind_meant kind) }
+    ensures { result ≡ clock_to_q_of (kind_meant kind) }
 {
     match kind {
         Kind::Input => 0,

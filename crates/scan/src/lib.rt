@@ -1,4 +1,6 @@
 // The scanner: lines, words and names of a BLIF text, each found from a position in it.
+#![tactic(auto)]
+
 mod lines;
 mod name;
 mod stops;

@@ -24,7 +24,7 @@ use sweep::{differences_hold, freeze, sweep, thaw};
 use types::{Label, Step};
 
 // What a round comes to.
-#[derive(Drop)]
+#[derive(Clone, Copy)]
 pub enum Turn {
     Least,
     Late,
@@ -32,7 +32,7 @@ pub enum Turn {
 }
 
 // How a round is done: whether its pass is whole, whether nodes are tested for floating after it, and whether those that have not moved are frozen.
-#[derive(Drop)]
+#[derive(Clone, Copy)]
 pub struct Mode {
     pub whole: bool,
     pub test: bool,

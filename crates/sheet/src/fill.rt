@@ -12,7 +12,7 @@ use types::Refusal;
 use window_read::{WindowRead, window_at};
 
 // How far reading into a table came.
-#[derive(Drop)]
+#[derive(Clone, Copy)]
 pub enum Progress {
     Next(Cursor),
     Refused(Refusal),

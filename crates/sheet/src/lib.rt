@@ -1,4 +1,6 @@
 // Reads sheets into their header and two tables.
+#![tactic(auto)]
+
 mod fill;
 mod node;
 mod reader;

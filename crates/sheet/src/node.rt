@@ -11,14 +11,14 @@ use rows::{Difference, kind_of};
 use types::{Level, Node, Refusal};
 
 // What reading a node's head gives.
-#[derive(Drop)]
+#[derive(Clone, Copy)]
 pub enum HeadRead {
     Head(Node, Cursor),
     Refused(Refusal),
 }
 
 // What reading a difference gives.
-#[derive(Drop)]
+#[derive(Clone, Copy)]
 pub enum DifferenceRead {
     Value(Difference, Cursor),
     Refused(Refusal),

@@ -16,14 +16,14 @@ use types::Refusal;
 use window_read::{count_at, period_at};
 
 // What reading the header gives.
-#[derive(Drop)]
+#[derive(Clone, Copy)]
 pub enum HeaderRead {
     Header(Header, Cursor),
     Refused(Refusal),
 }
 
 // What reading a sheet gives.
-#[derive(Drop)]
+#[derive(Clone, Copy)]
 pub enum Reading {
     Sheet(Header),
     Refused(Refusal),

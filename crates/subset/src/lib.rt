@@ -1,4 +1,6 @@
 // What one line of a BLIF text is, by its words.
+#![tactic(auto)]
+
 ghost use Rattle.std.specs.Prelude.{◌≡◌, List, [], ◌∷◌, length, get_or};
 ghost use Rattle.blif.specs.Words.{Word};
 ghost use Rattle.blif.specs.Scan.{name_at, words_at};
@@ -11,7 +13,7 @@ ghost use Rattle.subset.specs.Meant.{stage_meant, statement_meant, Shaped, Parts
 use scan::{after_blanks, after_word, is_cover, spells};
 
 // Where a line stands; a cover has so many inputs.
-#[derive(Drop)]
+#[derive(Clone, Copy)]
 pub enum Stage {
     First,
     Head,
@@ -21,7 +23,7 @@ pub enum Stage {
 }
 
 // What a line is. Its words after the first say the rest.
-#[derive(Drop)]
+#[derive(Clone, Copy)]
 pub enum Statement {
     Model,
     Inputs,
@@ -34,7 +36,7 @@ pub enum Statement {
 }
 
 // Of the words after the first: so many are read, then so many are defined; so many are names.
-#[derive(Drop)]
+#[derive(Clone, Copy)]
 pub struct Parts {
     pub reads: usize,
     pub defines: usize,

@@ -1,5 +1,7 @@
 // What is done with the differences between two passes: which of them are heeded, whether these hold, and a sweep that raises nodes, ids falling, as
 // far as the differences into them alone ask. A list of differences by target (`first`, `next`) that is empty is one that is not heeded.
+#![tactic(auto)]
+
 ghost use Rattle.std.specs.Prelude.{◌≡◌, ℕ, ◌<◌, ◌≤◌};
 ghost use Rattle.maps.specs.Sheet.{Sheet};
 ghost use Rattle.rows.specs.Cells.{Ends};

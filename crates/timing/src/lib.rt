@@ -1,4 +1,6 @@
 // When the least labels are ready: the labels of any horizon against the sheet's own, and their latency.
+#![tactic(auto)]
+
 ghost use Rattle.std.specs.Prelude.{◌≡◌, true, List, [], ℕ, ◌<◌, ◌≤◌};
 ghost use Rattle.maps.specs.Sheet.{Sheet, size};
 ghost use Rattle.maps.specs.Legal.{plan_latency};
@@ -17,7 +19,7 @@ use schedule::least_labels;
 use types::Step;
 
 // What the horizon comes to: nothing is legal under any, nothing within this one but within a larger one, or the least labels are in time.
-#[derive(Drop)]
+#[derive(Clone, Copy)]
 pub enum Timing {
     Never,
     Late,

@@ -1,19 +1,21 @@
 // The types of the planner: steps, levels, labels, kinds, nodes and refusals, with the functions of labels.
+#![tactic(auto)]
+
 ghost use Rattle.std.specs.Prelude.{◌≡◌, ◌+◌, ◌≤◌, ◌<◌, min, max};
 ghost use Rattle.maps.specs.Label.{label, earliest, leq, later, next_step, plus, ready};
 ghost use Rattle.maps.specs.Window.{between, next_open};
 ghost use Rattle.types.specs.Code.{label_of, fitted, number_of, place_of};
 
 // A clock step.
-#[derive(Drop)]
+#[derive(Clone, Copy)]
 pub struct Step(pub u32);
 
 // An arrival level inside a step.
-#[derive(Drop)]
+#[derive(Clone, Copy)]
 pub struct Level(pub u32);
 
 // A label (s, l). Nothing but the functions of this type combines a step and a level.
-#[derive(Drop)]
+#[derive(Clone, Copy)]
 pub struct Label {
     pub step: Step,
     pub level: Level,
@@ -169,7 +171,7 @@ impl Label {
 }
 
 // The kind of a node: only a box has a latency, and after it a clock-to-Q level.
-#[derive(Drop)]
+#[derive(Clone, Copy)]
 pub enum Kind {
     Input,
     Logic,
@@ -177,7 +179,7 @@ pub enum Kind {
 }
 
 // A node without its operands, which stand in a table beside it.
-#[derive(Drop)]
+#[derive(Clone, Copy)]
 pub struct Node {
     pub kind: Kind,
     pub output: bool,
@@ -186,7 +188,7 @@ pub struct Node {
 }
 
 // A ground for refusing, with its place.
-#[derive(Drop)]
+#[derive(Clone, Copy)]
 pub enum Refusal {
     // 1, the sheet ends before a number is complete or present
     Ended(usize),

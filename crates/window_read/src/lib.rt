@@ -1,4 +1,6 @@
 // The windows of a sheet, read at a cursor: the period, how many entries there are, and an entry's box, from and to.
+#![tactic(auto)]
+
 ghost use Rattle.std.specs.Prelude.{◌≡◌, ◌≤◌, ◌<◌, length};
 ghost use Rattle.maps.specs.Limits.{size_range, period_range, windows_range, box_range, from_range, to_range};
 ghost use Rattle.maps.specs.Form.{boxed, tested, in_range, read};
@@ -16,14 +18,14 @@ use types::Refusal;
 const BOX: u32 = 2;
 
 // An entry: a box and its window.
-#[derive(Drop)]
+#[derive(Clone, Copy)]
 pub struct Entry {
     pub id: u32,
     pub window: Window,
 }
 
 // What reading an entry gives.
-#[derive(Drop)]
+#[derive(Clone, Copy)]
 pub enum WindowRead {
     Value(Entry, Cursor),
     Refused(Refusal),

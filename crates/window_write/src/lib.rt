@@ -1,4 +1,6 @@
 // The parts of a sheet's bus cycle that have a fixed count of numbers: the period with the count of windows, and a window.
+#![tactic(auto)]
+
 ghost use Rattle.std.specs.Prelude.{[], ◌∷◌, ◌+◌, ◌<◌, ◌≤◌, length};
 ghost use Rattle.maps.specs.Number.{bytes_for};
 ghost use Rattle.maps.specs.Limits.{size_range, period_range, windows_range, box_range, from_range, to_range};

@@ -1,4 +1,6 @@
 // The sheet writer: the sheet of a circuit that is kept as records.
+#![tactic(auto)]
+
 mod parts;
 mod sheet;
 

@@ -1,4 +1,6 @@
 // Plans, written as bytes.
+#![tactic(auto)]
+
 ghost use Rattle.std.specs.Prelude.{◌≡◌, ◌++◌, map, ℕ, ◌+◌, ◌*◌, ◌<◌, ◌≤◌, length, take, get_or};
 ghost use Rattle.maps.specs.Lists.{All, below, concat};
 ghost use Rattle.maps.specs.Limits.{leaves_range, top_range, horizon_range, size_range};
