@@ -142,6 +142,11 @@ no-directive x w rest other e = go (or-true (eqb x 48 || eqb x 49) (eqb x 45) e)
 
 find-row : (n : ℕ) (ws : List Word) → Row n ws → statement (cover n) ws ≡ row
 unfolding statement
+find-row zero [] x'' = elim x'' [ ]
+find-row zero (o ∷ (_ ∷ _)) x7 = elim x7 [ ]
+find-row (suc n) [] x3 = elim x3 [ ]
+find-row (suc n) (w ∷ []) x6 = elim x6 [ ]
+find-row (suc n) (w ∷ (o ∷ (_ ∷ _))) x11 = elim x11 [ ]
 find-row zero (o ∷ []) (without e) = go (or-true (is "0" o) (is "1" o) e)
   where
     go : (is "0" o ≡ true) ⊎ (is "1" o ≡ true) → statement (cover zero) (o ∷ []) ≡ row

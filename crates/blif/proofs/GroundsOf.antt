@@ -26,6 +26,7 @@ use Rattle.blif.proofs.Grammars.{Meant, in-subset, not-in-subset, meant, stateme
 
 -- a test that holds of all, and one that fails of some
 all-at : {A : Type 0} (p : A → Bool) {x : A} (xs : List A) → all p xs ≡ true → Memᴰ x xs → p x ≡ true
+all-at {A = A} p [] e x3 = elim x3 [ ]
 all-at p (y ∷ ys) e (Memᴰ.head q) = ap p q ∙ (and-true (p y) (all p ys) e).0
 all-at p (y ∷ ys) e (Memᴰ.tail m) = all-at p ys (and-true (p y) (all p ys) e).1 m
 
@@ -56,6 +57,7 @@ has-out ns w e =
 
 -- the names that definitions read
 reads_in : (d : Definition) (w : Word) (ds : List Definition) → Memᴰ d ds → Memᴰ w d.reads → Memᴰ w (reads_of ds)
+reads_in d w [] x'' m = elim x'' [ ]
 reads_in d w (x ∷ ds) (Memᴰ.head q) m = Memᴰ.append_left (reads_of ds) (subst (λ (y : Definition). Memᴰ w y.reads) q m)
 reads_in d w (x ∷ ds) (Memᴰ.tail n) m = Memᴰ.append_right x.reads (reads_in d w ds n m)
 
