@@ -3,7 +3,7 @@ ghost use Rattle.std.specs.Prelude.{length};
 ghost use Rattle.blif.specs.Limits.{caller};
 ghost use Rattle.demands.specs.Imports.{Imports, ImportBounded};
 
-use bytes::Answer;
+use out_bytes::Answer;
 use planner::maps_import;
 
 // Imports the BLIF model of a text as a sheet into a buffer.

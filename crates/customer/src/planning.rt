@@ -5,7 +5,7 @@ ghost use Rattle.demands.specs.Bounds.{Bounded};
 ghost use Rattle.demands.specs.Keeping.{FormerKept, UnwindowedKept};
 ghost use Rattle.demands.specs.Windows.{WindowRule};
 
-use bytes::Answer;
+use out_bytes::Answer;
 use planner::maps_plan;
 
 // Plans a sheet into a buffer.

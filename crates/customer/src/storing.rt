@@ -3,7 +3,7 @@ ghost use Rattle.std.specs.Prelude.{length};
 ghost use Rattle.records.specs.Rows.{records_in};
 ghost use Rattle.demands.specs.Stores.{Stores, StoreBounded};
 
-use bytes::Answer;
+use out_bytes::Answer;
 use planner::maps_write_rows;
 
 // Writes the sheet of records into a buffer.

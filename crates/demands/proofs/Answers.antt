@@ -5,7 +5,7 @@ use mathlib.Core.List.{List, ◌++◌}
 use lib.ListN.{length, take, drop}
 use lib.Seq.{take_at, drop_at}
 use Rattle.maps.specs.Outcome.{Outcome, accepted, refusal, outcome_number, outcome_place, buffer_after}
-use Rattle.bytes.specs.Outcome.{Answered}
+use Rattle.out_bytes.specs.Outcome.{Answered}
 use Rattle.demands.specs.Answers.{Written, Refused}
 
 module _ (o : Outcome) (number place : ℕ) (buffer after : List ℕ) (is : Answered o number place buffer after) where

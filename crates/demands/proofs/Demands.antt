@@ -34,7 +34,7 @@ use Rattle.never.specs.Ever.{Ever, never, some}
 use Rattle.never.proofs.Horizons.{ever-right, in-time, longer, never-computed, longer-computed, in-time-computed}
 use Rattle.never.proofs.Entries.{plain-labelled, entries-late, entries-least, entries-found}
 use Rattle.demands.specs.Demands.{NoEntries, Entries, AllCut, LowestCutless, LeastLabels, Ground, unread, uncut, too_late, too_short, planned, Covers, Demand1, Planned, Demand2, LeastPlan, Demand3}
-use Rattle.bytes.specs.Outcome.{Answered}
+use Rattle.out_bytes.specs.Outcome.{Answered}
 use Rattle.demands.proofs.Answers.{untouched, placed, front, back}
 
 -- the ground of an outcome

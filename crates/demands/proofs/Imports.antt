@@ -31,7 +31,7 @@ use Rattle.blif.proofs.Ordering.{clash}
 use Rattle.blif.proofs.Sheets.{callable_of}
 use Rattle.blif.proofs.Places.{Place, caller's, text's, places}
 use Rattle.blif.proofs.ImportLaws.{import-laws}
-use Rattle.bytes.specs.Outcome.{Answered}
+use Rattle.out_bytes.specs.Outcome.{Answered}
 use Rattle.demands.specs.Answers.{Written, Refused}
 use Rattle.demands.specs.Stores.{maps_sheet_most}
 use Rattle.demands.specs.Imports.{Imported, Imports, ImportBounded}

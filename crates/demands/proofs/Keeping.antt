@@ -4,7 +4,7 @@ use mathlib.Core.Path.{subst}
 use mathlib.Core.List.{List}
 use lib.ListN.{length}
 use Rattle.maps.specs.Outcome.{Outcome, outcome}
-use Rattle.bytes.specs.Outcome.{Answered}
+use Rattle.out_bytes.specs.Outcome.{Answered}
 use Rattle.former.proofs.Rewriting.{keeps, keeps-ready, rewrites, keeps-unwindowed, unwindows}
 use Rattle.demands.specs.Keeping.{FormerKept, UnwindowedKept}
 

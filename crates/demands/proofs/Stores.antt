@@ -18,7 +18,7 @@ use Rattle.maps.specs.Write.{Passes, First, numbers, spelling, writing}
 use Rattle.maps.proofs.Written.{reproduced, meant-spelling}
 use Rattle.maps.proofs.WrittenSize.{sheet-most, numbers-most}
 use Rattle.maps.proofs.WriteLaws.{writer-laws}
-use Rattle.bytes.specs.Outcome.{Answered}
+use Rattle.out_bytes.specs.Outcome.{Answered}
 use Rattle.demands.specs.Answers.{Written, Refused}
 use Rattle.demands.specs.Stores.{Stores, maps_sheet_most, StoreBounded}
 use Rattle.demands.proofs.Answers as A

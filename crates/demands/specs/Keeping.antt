@@ -4,7 +4,7 @@ use Rattle.maps.specs.Number.{Bytes}
 use Rattle.maps.specs.Sheet.{Sheet}
 use Rattle.maps.specs.Read.{sheet}
 use Rattle.maps.specs.Write.{spelling}
-use Rattle.bytes.specs.Outcome.{Answered}
+use Rattle.out_bytes.specs.Outcome.{Answered}
 use Rattle.former.specs.Former.{former_parse, unwindowed_parse, former_outcome, unwindowed_outcome}
 use Rattle.former.specs.Rewritten.{Rewritten, Unwindowed, Keeps, KeepsReady}
 

@@ -22,8 +22,8 @@ use Rattle.maps.proofs.Numbers.{spelled-append, first-later, first-sooner, conca
 use Rattle.types.specs.Code.{number_of}
 use Rattle.types.specs.declared.Refusal.{Refusal}
 use Rattle.types.specs.declared.Refusal.TheVariants.{Range, Operand}
-use Rattle.bytes.specs.Put.{Put}
-use Rattle.bytes.proofs.Putting.{put-none, put-within, put_then}
+use Rattle.out_bytes.specs.Put.{Put}
+use Rattle.out_bytes.proofs.Putting.{put-none, put-within, put_then}
 use Rattle.fields.specs.declared.Position.{Position}
 use Rattle.fields.specs.declared.Progress.{Progress}
 use Rattle.fields.specs.declared.Progress.TheVariants.{Next, Refused}

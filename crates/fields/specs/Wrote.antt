@@ -5,7 +5,7 @@ use Rattle.maps.specs.Write.{Entry, Passes, First, values_of, spelled}
 use Rattle.maps.specs.Sizes.{bytes_most}
 use Rattle.types.specs.Code.{number_of, place_of}
 use Rattle.types.specs.declared.Refusal.{Refusal}
-use Rattle.bytes.specs.Put.{Put}
+use Rattle.out_bytes.specs.Put.{Put}
 use Rattle.fields.specs.declared.Position.{Position}
 use Rattle.fields.specs.declared.Progress.{Progress}
 use Rattle.fields.specs.declared.Progress.TheVariants.{Next, Refused}

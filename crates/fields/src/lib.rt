@@ -10,7 +10,7 @@ ghost use Rattle.maps.specs.Sizes.{id_bytes_most};
 ghost use Rattle.ranges.specs.Ranges.{span_meant, field_range};
 ghost use Rattle.fields.specs.Wrote.{Room, Wrote};
 
-use bytes::put;
+use out_bytes::put;
 use ranges::{Field, Span, range_of};
 use types::Refusal;
 

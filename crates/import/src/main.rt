@@ -2,7 +2,7 @@
 // line of a refusal goes to standard error, so that a pipe has sheets only.
 #![tactic(auto)]
 
-use bytes::Outcome;
+use out_bytes::Outcome;
 
 // An argument: a number, or anything else.
 #[derive(Clone, Copy)]

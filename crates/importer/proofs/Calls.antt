@@ -13,7 +13,7 @@ use Rattle.maps.specs.Write.{writing}
 use Rattle.types.specs.Code.{number_of, place_of}
 use Rattle.types.specs.declared.Refusal.{Refusal}
 use Rattle.records.specs.Rows.{node_place, records_in}
-use Rattle.bytes.specs.Outcome.{Answered}
+use Rattle.out_bytes.specs.Outcome.{Answered}
 use Rattle.blif.specs.Names.{Definition}
 use Rattle.blif.specs.Limits.{Caller, delay, callable, text_most, short}
 use Rattle.blif.specs.Model.{Model, found, model_of}

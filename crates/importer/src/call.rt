@@ -1,6 +1,6 @@
 // The importing call.
 ghost use Rattle.std.specs.Prelude.{◌≡◌, true, ℕ, ◌≤◌, length};
-ghost use Rattle.bytes.specs.Outcome.{Answered, number_answered, place_answered};
+ghost use Rattle.out_bytes.specs.Outcome.{Answered, number_answered, place_answered};
 ghost use Rattle.blif.specs.Limits.{Caller, caller, delay as Delay, callable, text_most};
 ghost use Rattle.blif.specs.Model as Blif;
 ghost use Rattle.blif.specs.Model.{found, model_of};
@@ -8,7 +8,7 @@ ghost use Rattle.blif.specs.Import.{importing};
 ghost use Rattle.definitions.specs.Kept.{Kept};
 
 use crate::caller::{delay_of, is_callable};
-use bytes::Outcome;
+use out_bytes::Outcome;
 use definitions::Size;
 use model::{Model, read_model};
 use names::Names;

@@ -2,7 +2,7 @@
 // numbers, or the line of its refusal.
 #![tactic(auto)]
 
-use bytes::Outcome;
+use out_bytes::Outcome;
 
 const SEPARATOR: u8 = 28;
 

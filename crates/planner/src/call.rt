@@ -9,11 +9,11 @@ ghost use Rattle.rows.specs.Table.{Falling};
 ghost use Rattle.bound.specs.Lookup.{labels_in};
 ghost use Rattle.bound.specs.Going.{Given, AllKept};
 ghost use Rattle.maps.specs.Sizes.{plan_most};
-ghost use Rattle.bytes.specs.Outcome.{Answered, number_answered, place_answered};
+ghost use Rattle.out_bytes.specs.Outcome.{Answered, number_answered, place_answered};
 ghost use Rattle.planner.specs.Call.{Own, Made, Short, made_meant};
 
 use bound::{Levels, Steps};
-use bytes::{Answer, Outcome, answer_of, hand_over};
+use out_bytes::{Answer, Outcome, answer_of, hand_over};
 use cover::cover;
 use level::{Cuts, lowest_cutless};
 use rows::{Differences, Graph, Header};

@@ -1,10 +1,10 @@
 // The call that imports a BLIF text, for C.
 ghost use Rattle.std.specs.Prelude.{length};
-ghost use Rattle.bytes.specs.Outcome.{Answered};
+ghost use Rattle.out_bytes.specs.Outcome.{Answered};
 ghost use Rattle.blif.specs.Limits.{caller};
 ghost use Rattle.blif.specs.Import.{importing};
 
-use bytes::{Answer, answer_of};
+use out_bytes::{Answer, answer_of};
 use importer::import_blif;
 
 #[unsafe(no_mangle)]

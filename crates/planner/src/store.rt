@@ -1,10 +1,10 @@
 // The call that writes a sheet, for C.
 ghost use Rattle.std.specs.Prelude.{length};
 ghost use Rattle.maps.specs.Write.{writing};
-ghost use Rattle.bytes.specs.Outcome.{Answered};
+ghost use Rattle.out_bytes.specs.Outcome.{Answered};
 ghost use Rattle.records.specs.Rows.{records_in};
 
-use bytes::{Answer, answer_of};
+use out_bytes::{Answer, answer_of};
 use writer::write;
 
 #[unsafe(no_mangle)]

@@ -5,7 +5,7 @@ ghost use Rattle.std.specs.Prelude.{◌≡◌};
 ghost use Rattle.maps.specs.Outcome.{outcome, outcome_number};
 ghost use Rattle.types.specs.Code.{number_of};
 
-use bytes::Outcome;
+use out_bytes::Outcome;
 use number::{Cursor, Number, number_at};
 use types::Refusal;
 

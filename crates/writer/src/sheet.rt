@@ -2,12 +2,12 @@
 ghost use Rattle.std.specs.Prelude.{◌≡◌, length};
 ghost use Rattle.maps.specs.Write.{numbers, writing};
 ghost use Rattle.maps.specs.Sizes.{sheet_most};
-ghost use Rattle.bytes.specs.Outcome.{Answered, number_answered, place_answered};
+ghost use Rattle.out_bytes.specs.Outcome.{Answered, number_answered, place_answered};
 ghost use Rattle.records.specs.Rows.{records_in};
 ghost use Rattle.fields.specs.Wrote.{start, Wrote};
 
 use crate::parts::{put_cycle, put_differences, put_nodes};
-use bytes::{Outcome, hand_over};
+use out_bytes::{Outcome, hand_over};
 use entries::put_header;
 use fields::{Position, Progress};
 use records::{difference_count, node_count};

@@ -11,8 +11,8 @@ use Rattle.maps.specs.Number.{encoded, bytes_for}
 use Rattle.maps.specs.Limits.{leaves_range, size_range}
 use Rattle.maps.specs.Sizes.{id_bytes_most, cut_bytes_most, row_bytes_most, plan_most}
 use Rattle.maps.proofs.WrittenSize.{within-bytes, id-bytes}
-use Rattle.bytes.specs.Put.{Put}
-use Rattle.bytes.proofs.Putting.{put-within, put_then, concat-more}
+use Rattle.out_bytes.specs.Put.{Put}
+use Rattle.out_bytes.proofs.Putting.{put-within, put_then, concat-more}
 use Rattle.bound.specs.Lookup.{count_of, leaf_of}
 use Rattle.cover.specs.Cover.{row_of}
 use Rattle.cover.proofs.CoverMarks.{over-more}

@@ -9,11 +9,11 @@ ghost use Rattle.maps.specs.Sizes.{label_bytes_most, cut_bytes_most, row_bytes_m
 ghost use Rattle.bound.specs.Lookup.{count_of};
 ghost use Rattle.cover.specs.Cover.{Rows, row_of};
 ghost use Rattle.writing.specs.Bytes.{Small, flat_row, flat_plan};
-ghost use Rattle.bytes.specs.Put.{Put};
+ghost use Rattle.out_bytes.specs.Put.{Put};
 ghost use Rattle.writing.specs.Writing.{Writable};
 
 use bound::{Levels, Steps, label_of};
-use bytes::put;
+use out_bytes::put;
 use level::{Cuts, leaf_count_in, leaf_in};
 
 // Room for the longest plan.

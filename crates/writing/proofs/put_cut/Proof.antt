@@ -12,8 +12,8 @@ use Rattle.maps.specs.Sizes.{id_bytes_most}
 use Rattle.maps.proofs.WrittenSize.{id-bytes}
 use Rattle.bound.specs.Lookup.{count_of, leaf_of}
 use Rattle.cover.proofs.CoverMarks.{over-get}
-use Rattle.bytes.specs.Put.{Put}
-use Rattle.bytes.proofs.Putting.{put-none, put-within}
+use Rattle.out_bytes.specs.Put.{Put}
+use Rattle.out_bytes.proofs.Putting.{put-none, put-within}
 use Rattle.writing.proofs.Putting.{equal-bytes, leaves_to, put-leaf, put-leaves}
 use Rattle.writing.proofs.put_cut.Statement.{statement}
 use Rattle.writing.proofs.put_cut.Tie as tie

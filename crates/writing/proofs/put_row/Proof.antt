@@ -2,7 +2,7 @@
 use borrow.Author.Rules.{rules}
 use native.Mathlib.Omega.{arith}
 use mathlib.Core.List.{append_assoc}
-use Rattle.bytes.proofs.Putting.{put_then}
+use Rattle.out_bytes.proofs.Putting.{put_then}
 use Rattle.maps.specs.Sizes.{row_bytes_most}
 use Rattle.writing.proofs.put_row.Statement.{statement}
 use Rattle.writing.proofs.put_row.Tie as tie

@@ -8,8 +8,8 @@ use Rattle.maps.specs.Lists.{below, concat}
 use Rattle.writing.specs.Bytes.{flat_row}
 use Rattle.maps.specs.Limits.{size_range}
 use Rattle.maps.specs.Sizes.{row_bytes_most}
-use Rattle.bytes.specs.Put.{Put}
-use Rattle.bytes.proofs.Putting.{put-none, put-within}
+use Rattle.out_bytes.specs.Put.{Put}
+use Rattle.out_bytes.proofs.Putting.{put-none, put-within}
 use Rattle.writing.proofs.Putting.{put_next, put_all}
 use Rattle.writing.proofs.put_rows.Statement.{statement}
 use Rattle.writing.proofs.put_rows.Tie as tie

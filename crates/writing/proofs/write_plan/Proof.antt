@@ -1,7 +1,7 @@
 -- `writing::write_plan` meets its contract: the latency, then the rows.
 use native.Mathlib.Omega.{arith}
 use Rattle.maps.specs.Sizes.{plan_most}
-use Rattle.bytes.proofs.Putting.{put_then}
+use Rattle.out_bytes.proofs.Putting.{put_then}
 use Rattle.maps.proofs.WrittenSize.{within-bytes}
 use Rattle.writing.proofs.Putting.{put-most, put_first}
 use Rattle.writing.proofs.write_plan.Statement.{statement}

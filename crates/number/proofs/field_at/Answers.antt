@@ -1,0 +1,6 @@
+-- `number::field_at` meets its contract: the range is the table's.
+use borrow.Author.Rules.{rules}
+use Rattle.number.proofs.field_at.Goals as goal
+
+pub returns : goal.returns
+returns c = rw c.range_of-span.ensures at c.field_in.ensures

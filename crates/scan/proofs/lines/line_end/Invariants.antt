@@ -1,0 +1,15 @@
+use Prim.Native.Nat.{◌+◌, ◌-◌, ◌≤◌}
+use mathlib.Core.Path.{◌≡◌, refl, sym, ◌∙◌}
+use native.Mathlib.Omega.{arith}
+use borrow.Author.Rules.{rules}
+use lib.ListN.{length, drop, drop_of_length-le}
+use Rattle.blif.proofs.Positions.{from_end}
+use Rattle.scan.proofs.Stepping.{turn-stays, turn-goes}
+use Rattle.blif.specs.Scan.{from, ends_line}
+use Rattle.scan.proofs.lines.line_end.Given as goal
+
+abbrev pub invariant-loop-at : goal.invariant-loop-at
+invariant-loop-at l = (from ends_line (drop l.start l.text) ≡ from ends_line (drop l.at l.text)) × (l.start ≤ l.at)
+
+abbrev pub decreases-loop-at : goal.decreases-loop-at
+decreases-loop-at l = length l.text + 2 - l.at

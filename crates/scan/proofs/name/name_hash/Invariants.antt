@@ -1,0 +1,17 @@
+use Prim.Native.Nat.{◌≤◌}
+use mathlib.Core.Path.{◌≡◌, sym, ap, ◌∙◌}
+use borrow.Author.Rules.{rules}
+use native.Mathlib.Omega.{arith}
+use lib.ListN.{length}
+use Rattle.blif.specs.Scan.{name_at}
+use Rattle.scan.specs.Steps.{left}
+use Rattle.scan.specs.Hash.{hash_from, hash_of}
+use Rattle.scan.proofs.NameBytes.{left-none, left-next, ahead, ahead-falls}
+use Rattle.scan.proofs.Measuring.{hash-none, hash-more}
+use Rattle.scan.proofs.name.name_hash.Given as goal
+
+abbrev pub invariant-loop-p : goal.invariant-loop-p
+invariant-loop-p l = (hash_from l.hash (left l.text l.p) ≡ hash_of (name_at l.text l.at)) × (l.p ≤ length l.text)
+
+abbrev pub decreases-loop-p : goal.decreases-loop-p
+decreases-loop-p l = ahead l.text l.p

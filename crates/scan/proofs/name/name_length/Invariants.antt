@@ -1,0 +1,16 @@
+use Prim.Native.Nat.{◌+◌, ◌≤◌}
+use mathlib.Core.Path.{◌≡◌, ap}
+use borrow.Author.Rules.{rules}
+use native.Mathlib.Omega.{arith}
+use lib.ListN.{length}
+use Rattle.blif.specs.Scan.{name_at}
+use Rattle.blif.proofs.Walking.{name-length-most}
+use Rattle.scan.specs.Steps.{left}
+use Rattle.scan.proofs.NameBytes.{left-none, left-next, ahead, ahead-falls}
+use Rattle.scan.proofs.name.name_length.Given as goal
+
+abbrev pub invariant-loop-p : goal.invariant-loop-p
+invariant-loop-p l = (l.n + length (left l.text l.p) ≡ length (name_at l.text l.at)) × (l.p ≤ length l.text)
+
+abbrev pub decreases-loop-p : goal.decreases-loop-p
+decreases-loop-p l = ahead l.text l.p
