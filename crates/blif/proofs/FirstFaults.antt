@@ -30,7 +30,7 @@ in-front past at M l ls (faulty k p) s e (with-fault h) =
       stage = h.stage;
       model = h.model;
       fine = line s e h.fine;
-      ground = h.ground;
+      ground_is = h.ground_is;
       place = h.place;
     })
 in-front past at M l ls (faulty k p) s e (without_end h u n q) = without_end (line s e h) u n q
@@ -55,7 +55,7 @@ lines-end-so past at M (l ∷ ls) = go (fault M s) refl (model_from past (stage_
           stage = at;
           model = M;
           fine = done;
-          ground = found-ground at M l.words (suc k) (omega arith) e;
+          ground_is = found-ground at M l.words (suc k) (omega arith) e;
           place = refl;
         })
 
@@ -76,7 +76,7 @@ no-other-end past at M ls (found N) (with-model h) = ap (model_from past at M) (
 no-other-end past at M ls (faulty k p) (with-fault h) =
     ap (model_from past at M) h.split
     ∙ passed past at h.stage M h.model h.before (h.here ∷ h.after) h.fine
-    ∙ go k (ground-found h.stage h.model h.here.words k h.ground) (ground-some h.stage h.model h.here.words k h.ground) _
+    ∙ go k (ground-found h.stage h.model h.here.words k h.ground_is) (ground-some h.stage h.model h.here.words k h.ground_is) _
   where
     go : (k : ℕ) → fault h.model (statement h.stage h.here.words) ≡ k → 1 ≤ k → (f : Found) → judged (fault h.model (statement h.stage h.here.words)) h.here.number f ≡ faulty k p
     go zero e l f = absurd (omega arith)

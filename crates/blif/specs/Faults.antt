@@ -25,7 +25,7 @@ pub record FirstFault (at : Stage) (M : Model) (ls : List Line) (k p : ℕ) : Ty
   pub stage : Stage
   pub model : Model
   pub fine : Faultless at M before stage model
-  pub ground : GroundOf stage model here.words k
+  pub ground_is : GroundOf stage model here.words k
   pub place : here.number ≡ p
 
 -- how lines end, from a stage and a model on

@@ -101,7 +101,7 @@ module _ (text : List ℕ) (c : Caller) (buffer : List ℕ) (number place : ℕ)
 
       go : Way text c → Ground number ⊎ ((S : Sheet) × Imported text c buffer number place after S)
       go (W.barred b) = inl (inr (inr (said 11 0 (laws.barred b))))
-      go (W.faulty h l k p f) = inl (rw (said k p (laws.faulty h l k p f)) (ground-number f.ground))
+      go (W.faulty h l k p f) = inl (rw (said k p (laws.faulty h l k p f)) (ground-number f.ground_is))
       go (W.endless h l stage N r u) = inl (inl (said 9 _ (laws.endless h l stage N r u)))
       go (W.undefined h l N o r u) = inl (inr (inl (said 10 _ (laws.undefined h l N o r u))))
       go (W.sheet h l N r a) = let s = laws.sheet h l N r a in inr (s.0, outcome-sheet s.0 s.1 s.2 s.3)
@@ -125,7 +125,7 @@ module _ (text : List ℕ) (c : Caller) (buffer : List ℕ) (number place : ℕ)
       record {
         caller = λ h. refusing 11 0 (λ z. omega arith) (laws.barred (inl h));
         longer = λ l. refusing 11 0 (λ z. omega arith) (laws.barred (inr l));
-        faulty = λ h l k p f. refusing k p (λ z. omega (arith, ground-high (ground-number f.ground))) (laws.faulty h l k p f);
+        faulty = λ h l k p f. refusing k p (λ z. omega (arith, ground-high (ground-number f.ground_is))) (laws.faulty h l k p f);
         endless = λ h l stage N r u. refusing 9 _ (λ z. omega arith) (laws.endless h l stage N r u);
         undefined = λ h l N o r u. refusing 10 _ (λ z. omega arith) (laws.undefined h l N o r u);
         sheet = λ h l N r a. let s = laws.sheet h l N r a in (s.0, outcome-sheet s.0 s.1 s.2 s.3);

@@ -35,7 +35,7 @@ reads bytes graph differences number place graph' differences' b is =
       rejected = λ k p e.
           let r = rw (refuses-parse bytes k p e) at is in
           record {
-            ground = refuses-number e;
+            ground_is = refuses-number e;
             number_is = r.0;
             place_is = r.1;
             graph-kept = r.2;

@@ -10,7 +10,7 @@ use lib.ListN.{length, take}
 use borrow.Author.Tests.{leb-true, leb-false}
 use Rattle.maps.specs.Lists.{All}
 use Rattle.maps.specs.Reading.{ReadsAs}
-use Rattle.maps.specs.Form.{Rule, among, boxed, under, ground}
+use Rattle.maps.specs.Form.{Rule, among, boxed, under, rule_ground}
 use Rattle.maps.specs.Outcome.{accepted, refusal, outcome_number}
 use Rattle.maps.specs.Records.{Records, sheet_meant, records_of}
 use Rattle.maps.specs.WriteLaws.{WriterLaws}
@@ -34,7 +34,7 @@ module _ (R : Records) (buffer : List ℕ) (number place : ℕ) (after : List �
   first-ground : {k i : ℕ} → First (numbers R) k i → (k ≡ 3) ⊎ (k ≡ 4)
   first-ground f = go f.faulty.rule f.number
     where
-      go : (r : Rule) {k : ℕ} → ground r ≡ k → (k ≡ 3) ⊎ (k ≡ 4)
+      go : (r : Rule) {k : ℕ} → rule_ground r ≡ k → (k ≡ 3) ⊎ (k ≡ 4)
       go (among q) e = inl (sym e)
       go (boxed q is_box) e = inl (sym e)
       go (under own) e = inr (sym e)

@@ -17,7 +17,7 @@ module _ (bytes graph differences : List ℕ) (number place : ℕ) (graph' diffe
 
   -- grounds 1 to 5, with their places, and no number of the tables changes
   pub record Rejected (k p : ℕ) : Type 0 where
-    pub ground : (1 ≤ k) × (k ≤ 5)
+    pub ground_is : (1 ≤ k) × (k ≤ 5)
     pub number_is : number ≡ k
     pub place_is : place ≡ p
     pub graph-kept : graph' ≡ graph

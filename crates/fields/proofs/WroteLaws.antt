@@ -12,7 +12,7 @@ use borrow.Author.Tests.{lt-leb, le-leb, lt-ltb, le-ltb}
 use Rattle.maps.specs.Lists.{All, below, concat}
 use Rattle.maps.specs.Limits.{Range as Span, range, size_range}
 use Rattle.maps.specs.Number.{width, encoded, bytes_for}
-use Rattle.maps.specs.Form.{Rule, among, boxed, under, passes, ground}
+use Rattle.maps.specs.Form.{Rule, among, boxed, under, passes, rule_ground}
 use Rattle.maps.specs.Sizes.{bytes_most}
 use Rattle.maps.specs.Write.{Entry, entry, Passes, First, values_of, spelled}
 use Rattle.maps.proofs.Member.{All-join, All-split}
@@ -33,7 +33,7 @@ abbrev pub position : (at number : ℕ) → Position
 position a n = record { at = a; number = n }
 
 -- a number that fails, and one that passes
-fails-here : (r : Rule) (x : ℕ) → passes r x ≡ false → First (entry r x ∷ []) (ground r) 0
+fails-here : (r : Rule) (x : ℕ) → passes r x ≡ false → First (entry r x ∷ []) (rule_ground r) 0
 fails-here r x f = record { before = []; faulty = entry r x; after = []; listed = refl; place = refl; good = tt; fails = f; number = refl }
 
 and-false : (a : Bool) → (a && false) ≡ false
@@ -60,13 +60,13 @@ module _ (bytes : List ℕ) (p : Position) (low high x : ℕ) where
 -- the one number of a list is its first that fails
 module _ (e : Entry) where
   abbrev Fails : (k j : ℕ) → Type 0
-  Fails k j = (passes e.rule e.value ≡ false) × (ground e.rule ≡ k) × (j ≡ 0)
+  Fails k j = (passes e.rule e.value ≡ false) × (rule_ground e.rule ≡ k) × (j ≡ 0)
 
   fails-only : {k j : ℕ} → First (e ∷ []) k j → Fails k j
   fails-only {k} {j} f = go f.before f.faulty f.after f.listed f.place f.fails f.number
     where
       go : (bs : List Entry) (x : Entry) (cs : List Entry) → e ∷ [] ≡ bs ++ (x ∷ cs) → length bs ≡ j → passes x.rule x.value ≡ false
-          → ground x.rule ≡ k → Fails k j
+          → rule_ground x.rule ≡ k → Fails k j
       go [] x cs l p n g = let q : e ≡ x = ap (λ es. get_or es 0 e) l in (rw q n, rw q g, sym p)
       go (b ∷ bs) x cs l p n g = absurd (omega (arith, ap length l, length-append bs (x ∷ cs)))
 

@@ -9,7 +9,7 @@ use lib.ListN.{length, drop, take, length-append, length-drop, take-append-drop}
 use lib.Seq.{drop-drop, drop-append_seam, length-take-le}
 use Rattle.maps.specs.Lists.{All}
 use Rattle.maps.specs.Number.{Bytes, Got, got, refusal, and_then, number, width, values, encoded}
-use Rattle.maps.specs.Form.{Rule, ground, passes, Form, done, ask, read, Leads}
+use Rattle.maps.specs.Form.{Rule, rule_ground, passes, Form, done, ask, read, Leads}
 use Rattle.maps.specs.Write.{spelled}
 use Rattle.maps.proofs.Spelling.{read_at, written_read, number-next, number_bound}
 
@@ -47,7 +47,7 @@ pub data Ends {A : Type 0} (f : Form A) (s : List ℕ) (at : ℕ) : Got A → Ty
   stop : {k p : ℕ} (ns : List ℕ) (r : Rule) (g : ℕ → Form A) (rest : List ℕ) → Leads f ns (ask r g) → drop at s ≡ spelled ns ++ rest
       → number s (at + length (spelled ns)) ≡ refusal k p → Ends f s at (refusal k p)
   wrong : (ns : List ℕ) (r : Rule) (g : ℕ → Form A) (x : ℕ) (rest : List ℕ) → Leads f ns (ask r g) → drop at s ≡ spelled ns ++ (encoded x ++ rest)
-      → x < values → passes r x ≡ false → Ends f s at (refusal (ground r) (at + length (spelled ns)))
+      → x < values → passes r x ≡ false → Ends f s at (refusal (rule_ground r) (at + length (spelled ns)))
 
 -- one number before
 ends_more : {A : Type 0} (r : Rule) (f : ℕ → Form A) (s : List ℕ) (at n next : ℕ) → passes r n ≡ true
@@ -65,7 +65,7 @@ ends_more {A} r f s at n next p e q o h = go o h
     go (refusal k u) (stop ns r' g rest l d h) =
         stop (n ∷ ns) r' g rest (p, l) (front ns rest d) (subst (λ i. number s i ≡ refusal k u) (place ns) h)
     go (refusal _ _) (wrong ns r' g x rest l d w z) =
-        subst (λ i. Ends (ask r f) s at (refusal (ground r') i)) (sym (place ns)) (wrong (n ∷ ns) r' g x rest (p, l) (front ns (encoded x ++ rest) d) w z)
+        subst (λ i. Ends (ask r f) s at (refusal (rule_ground r') i)) (sym (place ns)) (wrong (n ∷ ns) r' g x rest (p, l) (front ns (encoded x ++ rest) d) w z)
 
 -- by the form: each number that passes leads on to the next, and the first that does not ends the reading
 pub ends : {A : Type 0} (f : Form A) (s : List ℕ) → Bytes s → (at : ℕ) → Ends f s at (read f s at)
@@ -73,13 +73,13 @@ ends (done a) s b at = whole [] refl refl (sym (add-zero at))
 ends {A} (ask r f) s b at = reads (number s at) refl (λ x. ends (f x) s b)
   where
     asks : (x next : ℕ) (t : Bool) → number s at ≡ got x next → passes r x ≡ t → Ends (f x) s next (read (f x) s next)
-        → Ends (ask r f) s at (and_then (cond t (got x next) (refusal (ground r) at)) (λ a n. read (f a) s n))
+        → Ends (ask r f) s at (and_then (cond t (got x next) (refusal (rule_ground r) at)) (λ a n. read (f a) s n))
     asks x next true e p h = let w = here-spelled s b at x next e in ends_more r f s at x next p w.0 w.1 _ h
     asks x next false e p h =
         let w = here-spelled s b at x next e in
-        subst (λ i. Ends (ask r f) s at (refusal (ground r) i)) (add-zero at) (wrong [] r f x (drop next s) refl w.0 w.2 p)
+        subst (λ i. Ends (ask r f) s at (refusal (rule_ground r) i)) (add-zero at) (wrong [] r f x (drop next s) refl w.0 w.2 p)
 
     reads : (g : Got ℕ) → number s at ≡ g → ((x next : ℕ) → Ends (f x) s next (read (f x) s next))
-        → Ends (ask r f) s at (and_then (and_then g (λ x next. cond (passes r x) (got x next) (refusal (ground r) at))) (λ a n. read (f a) s n))
+        → Ends (ask r f) s at (and_then (and_then g (λ x next. cond (passes r x) (got x next) (refusal (rule_ground r) at))) (λ a n. read (f a) s n))
     reads (got x next) e rec = asks x next (passes r x) e refl (rec x next)
     reads (refusal k p) e rec = stop {k = k} {p = p} [] r f (drop at s) refl refl (rw (add-zero at) e)

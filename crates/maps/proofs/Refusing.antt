@@ -10,7 +10,7 @@ use lib.ListN.{length, drop, length-drop, length-append}
 use borrow.Author.Tests.{ltb-true, ltb-false, lt-ltb, le-ltb, eqb-true}
 use Rattle.maps.specs.Sheet.{Sheet}
 use Rattle.maps.specs.Number.{Bytes, Got, got, refusal, above, groups, number_up_to, number, width, values, encoded}
-use Rattle.maps.specs.Form.{among, boxed, under, Rule, ground, Form, done, ask, read, Leads}
+use Rattle.maps.specs.Form.{among, boxed, under, Rule, rule_ground, Form, done, ask, read, Leads}
 use Rattle.maps.specs.Read.{sheet_form, sheet, refused, whole, parse}
 use Rattle.maps.specs.Records.{Records, sheet_meant}
 use Rattle.maps.specs.Write.{First, numbers, values_of, spelled}
@@ -139,7 +139,7 @@ parse-refuses bytes k p small e = go (read sheet_form bytes 0) (ends sheet_form 
         let f = number-fault bytes (width - 1) (0 + length (spelled ns)) rest (L.after-here bytes 0 (spelled ns) rest d) in
         stopped bytes ns r g rest l d k p (number bytes (0 + length (spelled ns))) f (h ∙ cc)
     go (refusal _ _) (L.wrong ns r g x rest l d w f) q =
-        let a : ground r ≡ k = cc in
+        let a : rule_ground r ≡ k = cc in
         let c : 0 + length (spelled ns) ≡ p = cc in
         let o : length (spelled ns) ≡ p = omega arith in
         subst (Refuses bytes k) o (subst (λ j. Refuses bytes j (length (spelled ns))) a (value ns r g x rest l d w f))
@@ -175,7 +175,7 @@ refuses-number (ended ns r g rest l d h) = (omega arith, omega arith)
 refuses-number (misspelt ns r g rest l d h) = (omega arith, omega arith)
 refuses-number (value ns r g x rest l d w f) = go r
   where
-    go : (r : Rule) → (1 ≤ ground r) × (ground r ≤ 5)
+    go : (r : Rule) → (1 ≤ rule_ground r) × (rule_ground r ≤ 5)
     go (among q) = (omega arith, omega arith)
     go (boxed q is_box) = (omega arith, omega arith)
     go (under own) = (omega arith, omega arith)

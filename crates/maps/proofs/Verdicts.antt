@@ -7,7 +7,7 @@ use native.Mathlib.Omega.{arith}
 use native.Mathlib.Nat.{add-zero}
 use lib.ListN.{length}
 use Rattle.maps.specs.Lists.{All}
-use Rattle.maps.specs.Form.{ground, passes}
+use Rattle.maps.specs.Form.{rule_ground, passes}
 use Rattle.maps.specs.Write.{Entry, Passes, First, Verdict, good, fault, verdict}
 
 pub verdict-good : (i : ℕ) (es : List Entry) → All Passes es → verdict i es ≡ good (i + length es)
@@ -26,7 +26,7 @@ verdict-append i [] ys = refl
 verdict-append i (x ∷ xs) ys = go (passes x.rule x.value) (verdict-append (i + 1) xs ys)
   where
     go : (b : Bool) → verdict (i + 1) (xs ++ ys) ≡ following (verdict (i + 1) xs) ys
-        → cond b (verdict (i + 1) (xs ++ ys)) (fault (ground x.rule) i) ≡ following (cond b (verdict (i + 1) xs) (fault (ground x.rule) i)) ys
+        → cond b (verdict (i + 1) (xs ++ ys)) (fault (rule_ground x.rule) i) ≡ following (cond b (verdict (i + 1) xs) (fault (rule_ground x.rule) i)) ys
     go true e = e
     go false e = refl
 
@@ -61,8 +61,8 @@ judge i (e ∷ es) = go (passes e.rule e.value) refl (judge (i + 1) es)
         }))
 
     go : (b : Bool) → passes e.rule e.value ≡ b → Judged es (i + 1) (verdict (i + 1) es)
-        → Judged (e ∷ es) i (cond b (verdict (i + 1) es) (fault (ground e.rule) i))
+        → Judged (e ∷ es) i (cond b (verdict (i + 1) es) (fault (rule_ground e.rule) i))
     go true p h = later p (verdict (i + 1) es) h
     go false p h =
-        subst (λ n. Judged (e ∷ es) i (fault (ground e.rule) n)) (add-zero i)
-        (one {k = ground e.rule} {j = 0} (record { before = []; faulty = e; after = es; listed = refl; place = refl; good = tt; fails = p; number = refl }))
+        subst (λ n. Judged (e ∷ es) i (fault (rule_ground e.rule) n)) (add-zero i)
+        (one {k = rule_ground e.rule} {j = 0} (record { before = []; faulty = e; after = es; listed = refl; place = refl; good = tt; fails = p; number = refl }))

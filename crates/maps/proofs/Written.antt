@@ -11,7 +11,7 @@ use borrow.Author.Tests.{ltb-false, le-ltb, le-leb, lt-leb}
 use Rattle.maps.specs.Lists.{All}
 use Rattle.maps.specs.Sheet.{Sheet}
 use Rattle.maps.specs.Number.{Bytes, Got, got, refusal, number, width, values, encoded}
-use Rattle.maps.specs.Form.{Rule, ground, passes, Form, done, ask, read, Leads}
+use Rattle.maps.specs.Form.{Rule, rule_ground, passes, Form, done, ask, read, Leads}
 use Rattle.maps.specs.Read.{sheet_form, sheet, refused, whole, parse}
 use Rattle.maps.specs.Outcome.{accepted, within}
 use Rattle.maps.specs.Outcome as O
@@ -80,7 +80,7 @@ leads-parse ns S l = leads-whole sheet_form ns S (leads-small ns (done S) l) l
 
 -- a number that is not as asked
 pub reads-fails : (r : Rule) (g : ℕ → Form Sheet) (s : List ℕ) (at x : ℕ) (rest : List ℕ) → drop at s ≡ encoded x ++ rest → x < values
-    → passes r x ≡ false → read (ask r g) s at ≡ refusal (ground r) at
+    → passes r x ≡ false → read (ask r g) s at ≡ refusal (rule_ground r) at
 reads-fails r g s at x rest e l f =
     let n : number s at ≡ got x (at + length (encoded x)) = read_at s (width - 1) at x rest l e in
     rw (n, f)
@@ -108,7 +108,7 @@ whole-leads f bytes S b e = go (read f bytes 0) (ends f bytes b 0) e
     go : (g : Got Sheet) → Ends f bytes 0 g → whole bytes g ≡ sheet S → (ns : List ℕ) × Leads f ns (done S) × (bytes ≡ spelled ns)
     go (got R next) (L.whole ns l d u) q = end R next (ltb next (length bytes)) refl ns l d q
     go (refusal k p) (L.stop ns r g rest l d u) q = never k p q
-    go (refusal _ _) (L.wrong ns r g x rest l d u n) q = never (ground r) (0 + length (spelled ns)) q
+    go (refusal _ _) (L.wrong ns r g x rest l d u n) q = never (rule_ground r) (0 + length (spelled ns)) q
 
 -- a sheet reads exactly if it is the spelling of a well-formed one
 pub reads-parse : (bytes : List ℕ) (S : Sheet) → ReadsAs bytes S → parse bytes ≡ sheet S

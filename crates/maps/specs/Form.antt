@@ -15,10 +15,10 @@ passes (boxed r is_box) x = (leb r.low x && leb x r.high) && is_box x
 passes (under own) x = ltb x own
 
 -- 3, "a value, u and v included, is outside its range"; 4, "an operand id is not below the node's own"
-abbrev pub ground : Rule → ℕ
-ground (among r) = 3
-ground (boxed r is_box) = 3
-ground (under own) = 4
+abbrev pub rule_ground : Rule → ℕ
+rule_ground (among r) = 3
+rule_ground (boxed r is_box) = 3
+rule_ground (under own) = 4
 
 pub data Form (A : Type 0) : Type 0 where
   done : A → Form A
@@ -54,7 +54,7 @@ chain next f i (suc n) = do
 
 -- a number that is as asked, else its ground at its first byte: "spelling before value"
 abbrev pub tested : Rule → Reader ℕ
-tested r = λ s at. and_then (number s at) (λ x next. cond (passes r x) (got x next) (refusal (ground r) at))
+tested r = λ s at. and_then (number s at) (λ x next. cond (passes r x) (got x next) (refusal (rule_ground r) at))
 
 abbrev pub in_range : Range → Reader ℕ
 in_range r = tested (among r)

@@ -4,7 +4,7 @@ use Rattle.maps.specs.Lists.{All, concat}
 use Rattle.maps.specs.Number.{encoded, encoded_up_to}
 use Rattle.maps.specs.Limits.{leaves_range, top_range, horizon_range, size_range, count_range, kind_range, mark_range, id_range, weight_range, ranges_of, period_range, windows_range, box_range, from_range, to_range}
 use Rattle.maps.specs.Sheet.{Sheet, Window, box_in}
-use Rattle.maps.specs.Form.{Rule, among, boxed, under, passes, ground}
+use Rattle.maps.specs.Form.{Rule, among, boxed, under, passes, rule_ground}
 use Rattle.maps.specs.Read.{next_id}
 use Rattle.maps.specs.Records.{NodeRecord, DifferenceRecord, Records, node_meant, records_of}
 use Rattle.maps.specs.Outcome.{Outcome, refusal, within}
@@ -121,7 +121,7 @@ pub record First (es : List Entry) (k i : ℕ) : Type 0 where
   pub place : length before ≡ i
   pub good : All Passes before
   pub fails : passes faulty.rule faulty.value ≡ false
-  pub number : ground faulty.rule ≡ k
+  pub number : rule_ground faulty.rule ≡ k
 
 -- the numbers from the i-th on: all pass, and how many there are up to here, or the first that does not, with its ground
 pub data Verdict : Type 0 where
@@ -130,7 +130,7 @@ pub data Verdict : Type 0 where
 
 abbrev pub verdict : (i : ℕ) → List Entry → Verdict
 verdict i [] = good i
-verdict i (e ∷ es) = cond (passes e.rule e.value) (verdict (i + 1) es) (fault (ground e.rule) i)
+verdict i (e ∷ es) = cond (passes e.rule e.value) (verdict (i + 1) es) (fault (rule_ground e.rule) i)
 
 -- "the first number that the reader would refuse gets 3 or 4 (place: which number of the sheet, from 0), then 8"
 abbrev pub answered : Verdict → (bytes : List ℕ) → (room : ℕ) → Outcome
