@@ -1,0 +1,43 @@
+-- `cone::leaves` meets its contract. The loop's invariant: the list begins with the n leaves below i.
+use borrow.Author.Rules.{rules}
+use native.Mathlib.Omega.{arith}
+use Prim.Native.Nat.{◌+◌, ◌-◌, ◌≤◌, ◌<◌}
+use mathlib.Core.Path.{◌≡◌, refl, ap, ◌∙◌}
+use mathlib.Core.Logic.{⊎_elim}
+use lib.ListN.{length, set, take, length-set, length-take}
+use Rattle.cone.specs.Part.{leaves_below}
+use Rattle.cone.proofs.Listing.{listed-none, listed_same, listed_more, listed-all}
+use Rattle.cone.proofs.leaves.Goals as goal
+
+pub loop-i-init : goal.loop-i-init
+loop-i-init c = (listed-none c.args.part.now, refl, omega arith, omega arith)
+
+pub returns-then-count-n : goal.returns-then-count-n
+returns-then-count-n c =
+    let p = c.args.part.now in
+    let l = c.loop-i in
+    let list = set l.cut l.n l.i in
+    listed-all p list c.args.v c.args.count (l.n + 1) (l.i + 1) (omega arith) (omega (arith, length-set l.cut l.n l.i))
+    (listed_more p l.cut l.n l.i (omega arith) (omega (arith, c.if-part-i-eq2.true)) l.invariant.0) (omega (arith, c.if-count-n.true))
+
+pub loop-i-preserved : goal.loop-i-preserved
+loop-i-preserved c =
+    let l = c.loop-i in
+    let p = c.args.part.now in
+    ⊎_elim
+    (λ a. rw (a.2, a.3) (
+      listed_more p l.cut l.n l.i (omega arith) (omega (arith, a.0.taken)) l.invariant.0,
+      length-set l.cut l.n l.i ∙ l.invariant.1,
+      omega (arith, a.1.left, c.requires),
+      omega arith,
+    ))
+    (λ a. rw (a.1, a.2) (listed_same p l.cut l.n l.i (λ z. omega (arith, a.0.left, z)) l.invariant.0, l.invariant.1, omega arith, omega arith))
+    c.if-part-i-eq2.branch
+
+pub returns : goal.returns
+returns c e =
+    let p = c.args.part.now in
+    let l = c.loop-i in
+    let all : take l.n l.cut ≡ leaves_below p c.args.v = l.invariant.0 ∙ ap (leaves_below p) (omega arith) in
+    let m : c.args.count ≡ l.n = omega (arith, ap length all, length-take l.n l.cut) in
+    rw m all

@@ -1,0 +1,14 @@
+-- `distinct::distinct_within` meets its contract.
+use borrow.Author.Rules.{rules}
+use native.Mathlib.Omega.{arith}
+use mathlib.Core.Path.{sym, ◌∙◌}
+use lib.Seq.{length-take-le}
+use Rattle.distinct.proofs.distinct_within.Goals as goal
+
+pub slice_bounds-distinct_in-end-2 : goal.slice_bounds-distinct_in-end-2
+slice_bounds-distinct_in-end-2 c = sym (length-take-le c.args.count c.args.words.now c.requires.count_in_bounds.0)
+
+pub distinct_in-requires : goal.distinct_in-requires
+distinct_in-requires c =
+    let e = length-take-le c.args.count c.args.words.now c.requires.count_in_bounds.0 in
+    record { text_len_bound = c.requires.text_len_bound.0; words_len = (e ∙ c.requires.text_len_bound.1, omega (arith, e, c.requires.count_in_bounds.1)) }

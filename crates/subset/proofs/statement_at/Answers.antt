@@ -1,0 +1,32 @@
+-- `subset::statement_at` meets its contract.
+use borrow.Author.Rules.{rules}
+use Rattle.blif.specs.Scan.{name_at, words_at}
+use Rattle.subset.specs.Meant.{statement_meant}
+use Rattle.subset.proofs.LineLaws.{cover-line, latched-line, last_line}
+use Rattle.subset.proofs.statement_at.Goals as goal
+
+pub body_line-requires : goal.body_line-requires
+body_line-requires c = (c.requires, c.row_line-other.ensures.1)
+
+pub body_line-requires-in-Latched : goal.body_line-requires-in-Latched
+body_line-requires-in-Latched c = (c.requires, tt)
+
+pub returns-in-First : goal.returns-in-First
+returns-in-First c =
+    (rw c.in-First.is c.first_line.ensures.0, c.first_line.ensures.1)
+
+pub returns-in-Head : goal.returns-in-Head
+returns-in-Head c =
+    (rw c.in-Head.is c.head_line.ensures.0, c.head_line.ensures.1)
+
+pub returns-in-Cover : goal.returns-in-Cover
+returns-in-Cover c =
+    (rw c.in-Cover.is (cover-line (name_at c.args.text.now c.args.first) (words_at c.args.text.now c.args.rest) c.in-Cover.inputs (statement_meant c.body_line.result (words_at c.args.text.now c.args.rest)) (statement_meant c.row_line-other.result (words_at c.args.text.now c.args.rest)) c.row_line-other.ensures.0 c.body_line.ensures.0), c.body_line.ensures.1)
+
+pub returns-in-Latched : goal.returns-in-Latched
+returns-in-Latched c =
+    (rw c.in-Latched.is (latched-line (name_at c.args.text.now c.args.first) (words_at c.args.text.now c.args.rest) (statement_meant c.body_line-in-Latched.result (words_at c.args.text.now c.args.rest)) c.body_line-in-Latched.ensures.0), c.body_line-in-Latched.ensures.1)
+
+pub returns-in-Last : goal.returns-in-Last
+returns-in-Last c =
+    (rw c.in-Last.is (last_line (name_at c.args.text.now c.args.first) (words_at c.args.text.now c.args.rest)), tt)
