@@ -44,5 +44,6 @@ returns c =
     let p = c.requires in
     let w = name_at a.text.now a.at in
     let q = c.put_name in
-    subst (λ (h : ℕ). Added a.names.now (with_name q.new.names a.count h) a.count w) (sym c.name_hash-hash.ensures)
-    (listed_more p.0.0 p.0.1 q.ensures p.1.0 p.1.1, names_more p.0.0 p.0.1 q.ensures p.1.0)
+    let stored = subst (λ (h : ℕ). Added a.names.now (with_name q.new.names a.count h) a.count w) (sym c.name_hash-hash.ensures)
+    (listed_more p.listed.0 p.listed.1 q.ensures p.at_len_bound.0 p.at_len_bound.1, names_more p.listed.0 p.listed.1 q.ensures p.at_len_bound.0) in
+    record { listed_2 = stored.0; count_after = stored.1 }

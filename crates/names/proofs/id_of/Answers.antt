@@ -1,13 +1,13 @@
 -- `names::id_of` meets its contract: the search has come to e, and no name from there on is the one that is sought.
 use Prim.Native.Nat.{ℕ, ◌-◌, ◌%◌, ◌<◌}
 use mathlib.Core.Path.{sym, subst, ◌∙◌}
-use mathlib.Core.Logic.{⊎_elim}
 use borrow.Author.Rules.{rules}
 use native.Mathlib.Omega.{arith}
 use lib.ListN.{get_or}
 use Rattle.blif.specs.Scan.{name_at}
 use Rattle.names.specs.Table.{buckets, head_place}
 use Rattle.names.proofs.Searching.{Searched, search-begins, search-falls, search-goes, search-differs, search-finds, search-ends}
+use Rattle.names.proofs.id_of.Goals.{else-names-i-via-then-names-i+else-is_name, else-names-i-via-else-names-i}
 use Rattle.names.proofs.id_of.Goals as goal
 
 pub loop-e-init : goal.loop-e-init
@@ -41,7 +41,10 @@ loop-e-preserved c =
     let w = name_at a.text.now a.at in
     let differs = search-differs c.requires w l.e c.loop-e-test.true l.invariant in
     search-goes c.requires w l.e c.loop-e-test.true l.invariant
-    (⊎_elim (λ j. sym j.1.ensures ∙ j.2.left) (λ j. differs (λ q. j.left (q ∙ sym c.name_hash-hash.ensures))) c.else-names-i.branch)
+    (elim c.else-names-i.branch [
+      | else-names-i-via-then-names-i+else-is_name j ↦ sym j.is_name.ensures ∙ j.if-is_name.false
+      | else-names-i-via-else-names-i j ↦ differs (λ q. j.if-names-i.false (q ∙ sym c.name_hash-hash.ensures))
+    ])
 
 pub returns : goal.returns
 returns c =
