@@ -3,10 +3,10 @@ use borrow.Author.Rules.{rules}
 use native.Mathlib.Omega.{arith}
 use Prim.Native.Nat.{◌+◌, ◌-◌, ◌≤◌, ◌<◌}
 use mathlib.Core.Path.{◌≡◌, refl, ap, ◌∙◌}
-use mathlib.Core.Logic.{⊎_elim}
 use lib.ListN.{length, set, take, length-set, length-take}
 use Rattle.cone.specs.Part.{leaves_below}
 use Rattle.cone.proofs.Listing.{listed-none, listed_same, listed_more, listed-all}
+use Rattle.cone.proofs.leaves.Goals.{then-part-i-eq2+else-count-n, else-part-i-eq2}
 use Rattle.cone.proofs.leaves.Goals as goal
 
 pub loop-i-init : goal.loop-i-init
@@ -24,15 +24,15 @@ pub loop-i-preserved : goal.loop-i-preserved
 loop-i-preserved c =
     let l = c.loop-i in
     let p = c.args.part.now in
-    ⊎_elim
-    (λ a. rw (a.2, a.3) (
-      listed_more p l.cut l.n l.i (omega arith) (omega (arith, a.0.taken)) l.invariant.0,
-      length-set l.cut l.n l.i ∙ l.invariant.1,
-      omega (arith, a.1.left, c.requires),
-      omega arith,
-    ))
-    (λ a. rw (a.1, a.2) (listed_same p l.cut l.n l.i (λ z. omega (arith, a.0.left, z)) l.invariant.0, l.invariant.1, omega arith, omega arith))
-    c.if-part-i-eq2.branch
+    elim c.if-part-i-eq2.branch [
+      | then-part-i-eq2+else-count-n w ↦ rw (w.cut-is, w.n-is) (
+        listed_more p l.cut l.n l.i (omega arith) (omega (arith, w.if-part-i-eq2.true)) l.invariant.0,
+        length-set l.cut l.n l.i ∙ l.invariant.1,
+        omega (arith, w.if-count-n.false, c.requires),
+        omega arith,
+      )
+      | else-part-i-eq2 w ↦ rw (w.cut-is, w.n-is) (listed_same p l.cut l.n l.i (λ z. omega (arith, w.if-part-i-eq2.false, z)) l.invariant.0, l.invariant.1, omega arith, omega arith)
+    ]
 
 pub returns : goal.returns
 returns c e =

@@ -1,0 +1,37 @@
+-- `hold::hold_early` meets its contract. The invariant: of the first v nodes those of a step below the shift are marked, and no other.
+use borrow.Author.Rules.{rules}
+use native.Mathlib.Omega.{arith}
+use Prim.Native.Nat.{ℕ, ◌+◌, ◌-◌, ◌≤◌}
+use mathlib.Core.Path.{sym, subst}
+use mathlib.Core.List.{List}
+use mathlib.Core.Logic.{⊎_elim}
+use Rattle.hold.specs.Mark.{HeldEarly}
+use Rattle.hold.proofs.HoldMarks.{early-none, early-mark, early-skip}
+use Rattle.hold.proofs.hold_early.Goals as goal
+
+pub loop-v-init : goal.loop-v-init
+loop-v-init c = (omega arith, early-none _ _)
+
+pub step_of-own-requires : goal.step_of-own-requires
+step_of-own-requires c =
+    let t = c.loop-v-test.true in
+    let q = c.requires in
+    omega arith
+
+pub loop-v-preserved : goal.loop-v-preserved
+loop-v-preserved c =
+    let l = c.loop-v in
+    let t = c.loop-v-test.true in
+    let e = c.step_of-own.ensures in
+    let q = c.requires in (
+      omega arith,
+      ⊎_elim (λ w. subst (λ (h : List ℕ). HeldEarly c.args.steps.now h c.args.shift (l.v + 1)) (sym w.1) (early-mark l.invariant.1 (omega arith) (omega (arith, e, w.0.taken))))
+          (λ w. subst (λ (h : List ℕ). HeldEarly c.args.steps.now h c.args.shift (l.v + 1)) (sym w.1) (early-skip l.invariant.1 (omega (arith, e, w.0.left))))
+          c.if-own-shift.branch,
+    )
+
+pub returns : goal.returns
+returns c =
+    let g = c.loop-v.invariant.1 in
+    let t = c.loop-v-test.false in
+    record { wide = g.wide; early = λ v h z. g.early v (omega arith) z; only = λ v k. let o = g.only v k in (omega (arith, o.0), o.1) }

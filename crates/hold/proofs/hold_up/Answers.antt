@@ -1,0 +1,39 @@
+-- `hold::hold_up` meets its contract. The invariant: the first v nodes have had their turn.
+use borrow.Author.Rules.{rules}
+use native.Mathlib.Omega.{arith}
+use Prim.Native.Nat.{◌-◌, ◌≤◌}
+use mathlib.Core.Path.{◌∙◌}
+use mathlib.Core.Logic.{⊎_elim}
+use Rattle.hold.specs.Mark.{Swept}
+use Rattle.hold.proofs.HoldMarks.{swept_none, swept-wide, swept-yes, swept-no}
+use Rattle.hold.proofs.hold_up.Goals as goal
+
+pub loop-v-init : goal.loop-v-init
+loop-v-init c = (omega arith, swept_none (omega arith))
+
+pub hold_node-requires : goal.hold_node-requires
+hold_node-requires c =
+    let l = c.loop-v in
+    let t = c.loop-v-test.true in
+    let p = c.requires in
+    let q = p.n_bound.0 in
+    record { v_bound = (omega arith, p.n_bound.1, p.n_bound.2); falling = p.falling; by_index = λ u h. p.by_index u (omega arith); linked = p.linked; by_index_2 = p.by_index_2; held_len = swept-wide l.invariant.1 ∙ p.held_len }
+
+pub loop-v-preserved : goal.loop-v-preserved
+loop-v-preserved c =
+    let e = c.hold_node in
+    let l = c.loop-v in
+    let t = c.loop-v-test.true in
+    let p = c.requires in
+    let q = p.n_bound.0 in (
+      omega arith,
+      ⊎_elim (λ w. rw w.1 (swept-yes l.invariant.1 l.v t (omega (arith, swept-wide l.invariant.1, p.held_len)) (rw w.0.taken at e.ensures)))
+          (λ w. rw w.1 (swept-no l.invariant.1 l.v (λ u f h k. (f, omega arith)) (rw w.0.left at e.ensures)))
+          c.if-hold_node.branch,
+    )
+
+pub returns : goal.returns
+returns c =
+    let w = c.loop-v.invariant.1 in
+    let t = c.loop-v-test.false in
+    record { marked = w.marked; closed = λ z v f h. w.closed z v f (omega arith); only = w.only }
