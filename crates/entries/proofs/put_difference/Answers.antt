@@ -49,9 +49,6 @@ put_field-requires c =
     let w2 = more w1 c.in-Next-to_put.is (rw (i.0, i.1, row) at c.put_in-to_put.ensures) in
     room-left w2 (omega (arith, most)) c.requires.3
 
-pub shape_of-bytes : goal.shape_of-bytes
-shape_of-bytes c = wrote-wide (returns-3 c.before)
-
 pub returns : goal.returns
 returns c =
     let i = ids-right c.range_of.result _ c.args.n c.requires.2 c.range_of.ensures c.up_to-ids.ensures in

@@ -40,9 +40,6 @@ put_in-delay_put-requires c =
     let w2 = more w1 c.in-Next-mark_put.is c.put_field-mark_put.ensures in
     (omega (arith, d.1, small.0), rw d.1 (room-left w2 (omega (arith, most)) c.requires.1))
 
-pub shape_of-bytes-in_default-delay_put : goal.shape_of-bytes-in_default-delay_put
-shape_of-bytes-in_default-delay_put c = wrote-wide (returns-3 c.before)
-
 pub returns-in_default-delay_put : goal.returns-in_default-delay_put
 returns-in_default-delay_put c =
     let all = c.ranges_of-all in
@@ -62,9 +59,6 @@ put_in-latency_put-requires c =
     let w2 = more w1 c.in-Next-mark_put.is c.put_field-mark_put.ensures in
     let w3 = more w2 c.in-Next-delay_put.is (rw (d.0, d.1) at c.put_in-delay_put.ensures) in
     (omega (arith, l.1, small.1), rw l.1 (room-left w3 (omega (arith, most)) c.requires.1))
-
-pub shape_of-bytes-in_default-latency_put : goal.shape_of-bytes-in_default-latency_put
-shape_of-bytes-in_default-latency_put c = wrote-wide (returns-4 c.before)
 
 pub returns-in_default-latency_put : goal.returns-in_default-latency_put
 returns-in_default-latency_put c =
@@ -89,9 +83,6 @@ put_in-clock_put-requires c =
     let w3 = more w2 c.in-Next-delay_put.is (rw (d.0, d.1) at c.put_in-delay_put.ensures) in
     let w4 = more w3 c.in-Next-latency_put.is (rw (l.0, l.1) at c.put_in-latency_put.ensures) in
     (omega (arith, q.1, small.2), rw q.1 (room-left w4 (omega (arith, most)) c.requires.1))
-
-pub shape_of-bytes-in_default-clock_put : goal.shape_of-bytes-in_default-clock_put
-shape_of-bytes-in_default-clock_put c = wrote-wide (returns-5 c.before)
 
 pub returns-in_default-clock_put : goal.returns-in_default-clock_put
 returns-in_default-clock_put c =
@@ -120,9 +111,6 @@ put_in-requires c =
     let w4 = more w3 c.in-Next-latency_put.is (rw (l.0, l.1) at c.put_in-latency_put.ensures) in
     let w5 = more w4 c.in-Next-clock_put.is (rw (q.0, q.1) at c.put_in-clock_put.ensures) in
     (omega (arith, o.1, small.3), rw o.1 (room-left w5 (omega (arith, most)) c.requires.1))
-
-pub shape_of-bytes : goal.shape_of-bytes
-shape_of-bytes c = wrote-wide (returns-6 c.before)
 
 pub returns : goal.returns
 returns c =

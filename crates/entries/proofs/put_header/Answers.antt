@@ -29,9 +29,6 @@ put_field-horizon_put-requires c =
     let w2 = more w1 c.in-Next-top_put.is c.put_field-top_put.ensures in
     room-left w2 (omega arith) c.requires
 
-pub shape_of-bytes-in_default-horizon_put : goal.shape_of-bytes-in_default-horizon_put
-shape_of-bytes-in_default-horizon_put c = wrote-wide (returns-3 c.before)
-
 pub returns-in_default-horizon_put : goal.returns-in_default-horizon_put
 returns-in_default-horizon_put c =
     let w1 = begun c.in-Next.is c.put_field-leaves_put.ensures in
@@ -44,9 +41,6 @@ put_field-nodes_put-requires c =
     let w2 = more w1 c.in-Next-top_put.is c.put_field-top_put.ensures in
     let w3 = more w2 c.in-Next-horizon_put.is c.put_field-horizon_put.ensures in
     room-left w3 (omega arith) c.requires
-
-pub shape_of-bytes-in_default-nodes_put : goal.shape_of-bytes-in_default-nodes_put
-shape_of-bytes-in_default-nodes_put c = wrote-wide (returns-4 c.before)
 
 pub returns-in_default-nodes_put : goal.returns-in_default-nodes_put
 returns-in_default-nodes_put c =
@@ -63,9 +57,6 @@ put_field-requires c =
     let w4 = more w3 c.in-Next-nodes_put.is c.put_field-nodes_put.ensures in
     let r = room-left {k = bytes_for count_range.high} w4 (omega arith) c.requires in
     record { space = omega (arith, r.space); counted = omega (arith, r.counted, numbered w4) }
-
-pub shape_of-bytes : goal.shape_of-bytes
-shape_of-bytes c = wrote-wide (returns-5 c.before)
 
 pub returns : goal.returns
 returns c =

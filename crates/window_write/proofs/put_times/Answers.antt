@@ -13,42 +13,38 @@ use Rattle.fields.proofs.WroteLaws.{begun, stopped, last_one, wrote-wide, room-l
 use Rattle.window_write.proofs.Within.{within}
 use Rattle.window_write.proofs.put_times.Goals as goal
 
--- the range of from
-froms : (u : goal.After-up_to-froms) → Ends u.up_to-froms.result (from_range u.before.before.before.args.period)
-froms u =
-    from-right u.before.range_of.result _ u.before.before.before.args.period u.before.before.before.requires.1 u.before.range_of.ensures u.up_to-froms.ensures
-
--- from, written or refused
-wrote-from : (f : goal.After-put_in-from_put) → Wrote (entry (among (from_range f.before.before.before.before.before.args.period)) f.before.before.before.before.before.args.from ∷ []) f.before.before.before.before.before.args.bytes.now f.put_in-from_put.last.0 f.before.before.before.before.before.args.position f.put_in-from_put.result
-wrote-from f = let i = froms f.before.before in rw (i.0, i.1) at f.put_in-from_put.ensures
-
 pub put_in-from_put-requires : goal.put_in-from_put-requires
 put_in-from_put-requires c =
-    let i = froms c.before.before in
+    let i = from-right c.range_of.result _ c.args.period c.requires.1 c.range_of.ensures c.up_to-froms.ensures in
     let most = within-bytes {n = c.args.period - 1} {most = period_range.high} (omega (arith, c.requires.1)) in
     (omega (arith, i.1, c.requires.1), rw i.1 (room-less (omega (arith, most)) c.requires.2))
 
 pub returns-in_default : goal.returns-in_default
 returns-in_default c =
-    stopped (entry (among (to_range c.args.period c.args.from)) c.args.to ∷ []) c.in_default.is (wrote-from c.before.before.before.before.before)
+    let f = from-right c.range_of.result _ c.args.period c.requires.1 c.range_of.ensures c.up_to-froms.ensures in
+    let wrote = rw (f.0, f.1) at c.put_in-from_put.ensures in
+    stopped (entry (among (to_range c.args.period c.args.from)) c.args.to ∷ []) c.in_default.is wrote
 
 pub overflow_add-after : goal.overflow_add-after
 overflow_add-after c =
-    let l = within (from_range c.args.period) c.args.from (begun c.in-Next.is (wrote-from c.before.before.before.before.before.before.before.before)) in
+    let f = from-right c.range_of.result _ c.args.period c.requires.1 c.range_of.ensures c.up_to-froms.ensures in
+    let wrote = rw (f.0, f.1) at c.put_in-from_put.ensures in
+    let l = within (from_range c.args.period) c.args.from (begun c.in-Next.is wrote) in
     omega (arith, l, c.requires.1)
 
 pub put_in-requires : goal.put_in-requires
 put_in-requires c =
+    let f = from-right c.range_of.result _ c.args.period c.requires.1 c.range_of.ensures c.up_to-froms.ensures in
+    let wrote = rw (f.0, f.1) at c.put_in-from_put.ensures in
     let i = to-right _ _ c.args.period c.args.from (ends-right c.range_of-2.result _ c.args.period c.requires.1 c.range_of-2.ensures c.up_to-ends.ensures) c.at_least-tos.ensures in
-    let w = begun c.in-Next.is (wrote-from c.before.before.before.before.before.before.before.before.before.before) in
+    let w = begun c.in-Next.is wrote in
     let least = within-bytes {n = c.args.period - 1} {most = period_range.high} (omega (arith, c.requires.1)) in
     let most = within-bytes {n = c.args.period} {most = period_range.high} c.requires.1 in
     (omega (arith, i.1, c.requires.1), rw i.1 (room-left w (omega (arith, least, most)) c.requires.2))
 
-pub shape_of-bytes : goal.shape_of-bytes
-shape_of-bytes c = wrote-wide (returns-2 c.before)
-
 pub returns : goal.returns
 returns c =
+    let f = from-right c.range_of.result _ c.args.period c.requires.1 c.range_of.ensures c.up_to-froms.ensures in
+    let wrote = rw (f.0, f.1) at c.put_in-from_put.ensures in
     let i = to-right _ _ c.args.period c.args.from (ends-right c.range_of-2.result _ c.args.period c.requires.1 c.range_of-2.ensures c.up_to-ends.ensures) c.at_least-tos.ensures in
-    last_one (begun c.in-Next.is (wrote-from c.before.before.before.before.before.before.before.before.before.before.before.before.before)) (rw (i.0, i.1) at c.put_in.ensures)
+    last_one (begun c.in-Next.is wrote) (rw (i.0, i.1) at c.put_in.ensures)

@@ -23,9 +23,6 @@ put_times-requires c =
     let most = id-bytes {x = c.args.n - 1} (omega (arith, c.requires.2)) in
     (c.requires.3, c.requires.4, room-left w (omega (arith, most)) c.requires.5)
 
-pub shape_of-bytes : goal.shape_of-bytes
-shape_of-bytes c = wrote-wide (returns-2 c.before)
-
 pub returns : goal.returns
 returns c =
     last_one (begun c.in-Next.is (rw c.window_at-row.ensures at c.put_id-id_put.ensures)) (rw c.window_at-row.ensures at c.put_times.ensures)
