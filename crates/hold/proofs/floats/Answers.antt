@@ -3,9 +3,9 @@
 use borrow.Author.Rules.{rules}
 use borrow.Author.Tests.{not-true, not-false}
 use native.Mathlib.Omega.{arith}
-use mathlib.Core.Logic.{⊎_elim}
 use Rattle.rows.specs.Cells.{zeros}
 use Rattle.hold.proofs.HoldMarks.{Marks, marks-first, marks-again, marks-exact}
+use Rattle.hold.proofs.floats.Goals.{else-loop-held-test, then-loop-held-test+then-not-hold_down}
 use Rattle.hold.proofs.floats.Goals as goal
 
 pub loop-held-init : goal.loop-held-init
@@ -28,7 +28,7 @@ loop-held-smaller c =
     let e = c.hold_down in
     let f = c.hold_up in
     let k = marks-again c.loop-held.invariant (rw c.loop-held-test.true at f.ensures) in
-    let q = marks-again k.0 (rw (not-false e.result c.if-not-hold_down.false) at e.ensures) in
+    let q = marks-again k.0 (rw c.if-not-hold_down.false at e.ensures) in
     omega (arith, k.1, q.1)
 
 pub loop-held-preserved : goal.loop-held-preserved
@@ -36,13 +36,15 @@ loop-held-preserved c =
     let e = c.hold_down in
     let f = c.hold_up in
     let k = marks-again c.loop-held.invariant (rw c.loop-held-test.true at f.ensures) in
-    (marks-again k.0 (rw (not-false e.result c.if-not-hold_down.false) at e.ensures)).0
+    (marks-again k.0 (rw c.if-not-hold_down.false at e.ensures)).0
 
 pub returns : goal.returns
 returns c =
     let a = c.all_held in
     let f = c.hold_up in
     let i = c.loop-held.invariant in
-    ⊎_elim (λ w. marks-exact i (rw w.0.left at f.ensures) a.result (rw w.1 at a.ensures))
-    (λ w. marks-exact (marks-again i (rw w.0.taken at f.ensures)).0 (rw (not-true w.2.result w.3.taken) at w.2.ensures) a.result (rw w.4 at a.ensures))
-    c.loop-held-test.branch
+    elim c.loop-held-test.branch [
+      | else-loop-held-test w ↦ marks-exact i (rw w.loop-held-test.false at f.ensures) a.result (rw w.held-is at a.ensures)
+      | then-loop-held-test+then-not-hold_down w ↦
+          marks-exact (marks-again i (rw w.loop-held-test.true at f.ensures)).0 (rw w.if-not-hold_down.true at w.hold_down.ensures) a.result (rw w.held-is at a.ensures)
+    ]

@@ -55,18 +55,6 @@ returns-then-own-ready c =
       near_by c.args.graph.now c.args.steps.now c.args.held.now c.args.shift c.args.v c.loop-j.j c.operand_in-u.ensures c.ready_step-ready.ensures c.step_of-own.ensures h (omega (arith, c.if-own-ready.true)),
     )
 
-pub loop-j-preserved : goal.loop-j-preserved
-loop-j-preserved c =
-    let l = c.loop-j in
-    let t = c.loop-j-test.true in
-    let e = c.operand_in-u.ensures in
-    let o = c.step_of-own.ensures in (
-      omega arith,
-      l.invariant.1,
-      below_more _ _ l.invariant.2
-          (λ near. ⊎_elim (λ w. not-close c.args.graph.now c.args.steps.now c.args.held.now c.args.shift c.args.v l.j e w.1.ensures o (omega (arith, w.4.left)) near) (λ w. not-marked c.args.graph.now c.args.steps.now c.args.held.now c.args.shift c.args.v l.j e (held-no c.args.held.now _ w.left) near) c.if-held-u-ne0.branch),
-    )
-
 pub returns : goal.returns
 returns c j h near =
     let t = c.loop-j-test.false in

@@ -18,18 +18,6 @@ step_of-own-requires c =
     let q = c.requires in
     omega arith
 
-pub loop-v-preserved : goal.loop-v-preserved
-loop-v-preserved c =
-    let l = c.loop-v in
-    let t = c.loop-v-test.true in
-    let e = c.step_of-own.ensures in
-    let q = c.requires in (
-      omega arith,
-      ⊎_elim (λ w. subst (λ (h : List ℕ). HeldEarly c.args.steps.now h c.args.shift (l.v + 1)) (sym w.1) (early-mark l.invariant.1 (omega arith) (omega (arith, e, w.0.taken))))
-          (λ w. subst (λ (h : List ℕ). HeldEarly c.args.steps.now h c.args.shift (l.v + 1)) (sym w.1) (early-skip l.invariant.1 (omega (arith, e, w.0.left))))
-          c.if-own-shift.branch,
-    )
-
 pub returns : goal.returns
 returns c =
     let g = c.loop-v.invariant.1 in

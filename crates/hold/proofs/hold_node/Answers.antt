@@ -16,9 +16,9 @@ holdable-requires c =
 pub returns-then-not-holdable : goal.returns-then-not-holdable
 returns-then-not-holdable c =
     let e = c.holdable in
-    (λ h. absurd ((rw (not-true e.result c.if-not-holdable.true) at e.ensures) h), refl)
+    (λ h. absurd ((rw c.if-not-holdable.true at e.ensures) h), refl)
 
 pub returns : goal.returns
 returns c =
     let e = c.holdable in
-    (held-no c.args.held.now _ c.if-held-v-ne0.false, rw (not-false e.result c.if-not-holdable.false) at e.ensures, refl)
+    (held-no c.args.held.now _ c.if-held-v-ne0.false, rw c.if-not-holdable.false at e.ensures, refl)

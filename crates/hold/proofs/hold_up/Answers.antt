@@ -3,9 +3,9 @@ use borrow.Author.Rules.{rules}
 use native.Mathlib.Omega.{arith}
 use Prim.Native.Nat.{◌-◌, ◌≤◌}
 use mathlib.Core.Path.{◌∙◌}
-use mathlib.Core.Logic.{⊎_elim}
 use Rattle.hold.specs.Mark.{Swept}
 use Rattle.hold.proofs.HoldMarks.{swept_none, swept-wide, swept-yes, swept-no}
+use Rattle.hold.proofs.hold_up.Goals.{then-hold_node, else-hold_node}
 use Rattle.hold.proofs.hold_up.Goals as goal
 
 pub loop-v-init : goal.loop-v-init
@@ -27,9 +27,10 @@ loop-v-preserved c =
     let p = c.requires in
     let q = p.n_bound.0 in (
       omega arith,
-      ⊎_elim (λ w. rw w.1 (swept-yes l.invariant.1 l.v t (omega (arith, swept-wide l.invariant.1, p.held_len)) (rw w.0.taken at e.ensures)))
-          (λ w. rw w.1 (swept-no l.invariant.1 l.v (λ u f h k. (f, omega arith)) (rw w.0.left at e.ensures)))
-          c.if-hold_node.branch,
+      elim c.if-hold_node.branch [
+        | then-hold_node w ↦ rw w.grew-is (swept-yes l.invariant.1 l.v t (omega (arith, swept-wide l.invariant.1, p.held_len)) (rw w.if-hold_node.true at e.ensures))
+        | else-hold_node w ↦ rw w.grew-is (swept-no l.invariant.1 l.v (λ u f h k. (f, omega arith)) (rw w.if-hold_node.false at e.ensures))
+      ],
     )
 
 pub returns : goal.returns
