@@ -18,20 +18,6 @@ step_of-own-requires c =
     let q = c.requires in
     omega arith
 
-pub loop-v-preserved : goal.loop-v-preserved
-loop-v-preserved c =
-    let l = a.before.before.loop in
-    let s = a.before.before.before.before in
-    let t = a.before.loop-test.true in
-    let q = s.requires in
-    let o = a.step_of_lem.ensures in
-    let p = c.step_of-old.ensures in (
-      omega arith,
-      ⊎_elim (λ w. subst (λ (h : List ℕ). Frozen s.args.first.now s.args.steps.now s.args.since.now h (l.v + 1)) (sym w.2) (frozen-moved (omega arith) l.invariant.1 (λ z. omega (arith, w.0.taken))))
-          (λ w. subst (λ (h : List ℕ). Frozen s.args.first.now s.args.steps.now s.args.since.now h (l.v + 1)) (sym w.1) (frozen-still (omega arith) l.invariant.1 (omega (arith, w.0.left))))
-          c.if-own-old.branch,
-    )
-
 pub returns : goal.returns
 returns c =
     let f = c.loop-v.invariant.1 in

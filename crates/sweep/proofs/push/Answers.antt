@@ -12,27 +12,23 @@ use Rattle.sweep.proofs.push.Goals as goal
 
 pub after_differences-asked-requires : goal.after_differences-asked-requires
 after_differences-asked-requires c =
-    let s = c.before.before.before in
-    let r = s.requires.0.2 in
-    record { v_bound = ((node_in r.given s.args.v s.requires.1).1, few-differences r.given); heeding = r.heeding; by_index = summed-all r.given r.timed }
+    let r = c.requires.by_index.2 in
+    record { v_bound = ((node_in r.given c.args.v c.requires.v_lt_nodes).1, few-differences r.given); heeding = r.heeding; by_index = summed-all r.given r.timed }
 
 pub returns-then-asked-own : goal.returns-then-asked-own
 returns-then-asked-own c S bound on l =
-    let s = o.before.before in
-    let a = s.args in
-    let g = subst (λ (n : ℕ). Greatest n (Into a.differences.now a.first.now a.limits.differences a.v) (push_of a.differences.now a.steps.now) c.after_differences-asked.result.0) c.step_of_lem.ensures c.after_differences-asked.ensures in
-    push-none on a.v l c.after_differences-asked.result.0 g (omega (arith, c.if-asked-own.true, c.step_of_lem.ensures))
+    let a = c.args in
+    let g = subst (λ (n : ℕ). Greatest n (Into a.differences.now a.first.now a.limits.differences a.v) (push_of a.differences.now a.steps.now) c.after_differences-asked.result.0) c.step_of-own.ensures c.after_differences-asked.ensures in
+    push-none on a.v l c.after_differences-asked.result.0 g (omega (arith, c.if-asked-own.true, c.step_of-own.ensures))
 
 pub place_label-requires : goal.place_label-requires
 place_label-requires c =
-    let s = c.before.before.before.before.before.before.before.before.before.before.before in
-    (node_in s.requires.0.2.given s.args.v s.requires.1).1
+    (node_in c.requires.by_index.2.given c.args.v c.requires.v_lt_nodes).1
 
 pub returns : goal.returns
 returns c S bound on l =
-    let s = o.before.before in
-    let a = s.args in
-    let g = subst (λ (c.before.before.before.before.before : ℕ). Greatest c.before.before.before.before.before (Into a.differences.now a.first.now a.limits.differences a.v) (push_of a.differences.now a.steps.now) c.after_differences-asked.result.0) c.step_of_lem.ensures c.after_differences-asked.ensures in
+    let a = c.args in
+    let g = subst (λ (n : ℕ). Greatest n (Into a.differences.now a.first.now a.limits.differences a.v) (push_of a.differences.now a.steps.now) c.after_differences-asked.result.0) c.step_of-own.ensures c.after_differences-asked.ensures in
     let q = c.place_label in
-    push-placed on a.v l c.after_differences-asked.result.0 g (omega (arith, c.if-asked-own.false, c.step_of_lem.ensures)) (label_of c.at-label.result)
+    push-placed on a.v l c.after_differences-asked.result.0 g (omega (arith, c.if-asked-own.false, c.step_of-own.ensures)) (label_of c.at-label.result)
     (c.at-label.ensures ∙ ap (label c.after_differences-asked.result.0) c.delay_in.ensures) q.new.steps q.new.levels q.result q.ensures

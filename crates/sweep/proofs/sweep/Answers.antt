@@ -41,7 +41,7 @@ returns-then-not-push c S bound on =
     let w = l.invariant.1 S bound on in
     let t = c.loop-v-test.true in
     let h = l.invariant.0 in
-    rw (not-true e.result c.if-not-push.true) at (e.ensures S bound (swept-sweepable on l.v w.0 w.1) (omega arith))
+    rw c.if-not-push.true at (e.ensures S bound (swept-sweepable on l.v w.0 w.1) (omega arith))
 
 pub loop-v-preserved : goal.loop-v-preserved
 loop-v-preserved c =
@@ -52,7 +52,7 @@ loop-v-preserved c =
       omega arith,
       λ S bound on.
           let w = l.invariant.1 S bound on in
-          let p = rw (not-false e.result c.if-not-push.false) at (e.ensures S bound (swept-sweepable on l.v w.0 w.1) (omega arith)) in
+          let p = rw c.if-not-push.false at (e.ensures S bound (swept-sweepable on l.v w.0 w.1) (omega arith)) in
           sweep-turn on l.v w.0 w.1 (l.v - 1) (omega arith) (omega arith) _ _ p,
     )
 
