@@ -12,7 +12,7 @@ use Rattle.rows.specs.Table.{header_of, Tabled, Listed, Falling}
 use Rattle.sheet.specs.Answer.{header, Tables, tables, read_after}
 use Rattle.sheet.specs.Fill.{read_into}
 use Rattle.sheet.specs.Answer as Answers
-use Rattle.sheet.proofs.Reading.{read_whole, read-refused}
+use Rattle.sheet.proofs.Readings.{read_whole, read-refused}
 use Rattle.rows.proofs.Tables.{tabled, listed, falling}
 
 -- the bytes are a sheet, which the header, the period, the count of its entries and the tables hold

@@ -1,5 +1,5 @@
 pub mod Turns
 pub mod Cycles
 pub mod Boxes
-pub mod Reading
+pub mod Readings
 pub mod After

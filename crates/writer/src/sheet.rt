@@ -7,9 +7,9 @@ ghost use Rattle.records.specs.Rows.{records_in};
 ghost use Rattle.fields.specs.Wrote.{start, Wrote};
 
 use crate::parts::{put_cycle, put_differences, put_nodes};
-use out_bytes::{Outcome, hand_over};
 use entries::put_header;
 use fields::{Position, Progress};
+use out_bytes::{Outcome, hand_over};
 use records::{difference_count, node_count};
 
 // Room for the longest sheet.

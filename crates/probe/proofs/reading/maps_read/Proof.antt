@@ -1,7 +1,7 @@
 -- `probe::maps_read` meets its contract.
 use borrow.Author.Rules.{rules}
 use mathlib.Core.Path.{refl}
-use Rattle.sheet.proofs.Reading.{exported, read_whole, read-refused}
+use Rattle.sheet.proofs.Readings.{exported, read_whole, read-refused}
 use Rattle.probe.proofs.reading.maps_read.Statement.{statement}
 use Rattle.probe.proofs.reading.maps_read.Tie as tie
 

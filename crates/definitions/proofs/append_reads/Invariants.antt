@@ -1,0 +1,22 @@
+use Prim.Native.Nat.{ℕ, ◌+◌, ◌-◌, ◌≤◌, ◌<◌}
+use mathlib.Core.Path.{◌≡◌, refl, sym, ap, ◌∙◌}
+use mathlib.Core.List.{[], ◌∷◌, ◌++◌, map, append-nil}
+use borrow.Author.Rules.{rules}
+use native.Mathlib.Omega.{arith}
+use lib.ListN.{length, take, drop}
+use Rattle.blif.specs.Scan.{name_at, words_at}
+use Rattle.blif.specs.Import.{id_of}
+use Rattle.blif.proofs.Walking.{word-here, words-after}
+use Rattle.names.specs.Table.{names_in}
+use Rattle.names.proofs.Tables.{length-names}
+use Rattle.definitions.proofs.Keeping.{one-id, id-small}
+use Rattle.definitions.proofs.append_reads.Given as goal
+
+abbrev pub invariant-loop-i : goal.invariant-loop-i
+invariant-loop-i l =
+    (l.i ≤ l.reads) × (words_at l.text l.at ≡ drop l.i (words_at l.text l.start))
+    × (take (l.used + l.i) l.operands ≡ take l.used l.initial.operands ++ map (id_of (names_in l.names l.count)) (take l.i (words_at l.text l.start)))
+    × (length l.operands ≡ length l.initial.operands)
+
+abbrev pub decreases-loop-i : goal.decreases-loop-i
+decreases-loop-i l = l.reads - l.i

@@ -1,0 +1,19 @@
+use Prim.Native.Nat.{◌-◌, ◌≤◌}
+use mathlib.Core.Path.{◌≡◌, refl, sym, ap, ◌∙◌}
+use borrow.Author.Rules.{rules}
+use native.Mathlib.Nat.{sub-zero}
+use native.Mathlib.Omega.{arith}
+use lib.ListN.{length}
+use Rattle.sheet.specs.Code.{progress_meant}
+use Rattle.sheet.specs.Fill.{repeat_into, difference_into}
+use Rattle.sheet.proofs.Turns.{turn, stop, done}
+use Rattle.sheet.proofs.fill.read_differences.Given as goal
+
+abbrev pub invariant-loop-i : goal.invariant-loop-i
+invariant-loop-i l =
+    (length l.table ≡ length l.initial.table)
+    × (l.i ≤ l.m)
+    × (repeat_into (difference_into l.sheet l.n) l.m 0 l.initial.at.at l.initial.table ≡ repeat_into (difference_into l.sheet l.n) (l.m - l.i) l.i l.at.at l.table)
+
+abbrev pub decreases-loop-i : goal.decreases-loop-i
+decreases-loop-i l = l.m - l.i

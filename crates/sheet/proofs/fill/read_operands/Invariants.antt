@@ -1,0 +1,20 @@
+use Prim.Native.Nat.{◌-◌, ◌≤◌}
+use mathlib.Core.Path.{◌≡◌, refl, sym, ap, ◌∙◌}
+use borrow.Author.Rules.{rules}
+use native.Mathlib.Nat.{sub-zero}
+use native.Mathlib.Omega.{arith}
+use lib.ListN.{length}
+use Rattle.sheet.specs.Code.{progress_meant}
+use Rattle.rows.specs.Table.{operand_place}
+use Rattle.sheet.specs.Fill.{repeat_into, operand_into}
+use Rattle.sheet.proofs.Turns.{turn, stop, done}
+use Rattle.sheet.proofs.fill.read_operands.Given as goal
+
+abbrev pub invariant-loop-i : goal.invariant-loop-i
+invariant-loop-i l =
+    (length l.graph ≡ length l.initial.graph)
+    × (l.i ≤ l.count)
+    × (repeat_into (operand_into l.sheet l.own (operand_place l.own)) l.count 0 l.initial.at.at l.initial.graph ≡ repeat_into (operand_into l.sheet l.own (operand_place l.own)) (l.count - l.i) l.i l.at.at l.graph)
+
+abbrev pub decreases-loop-i : goal.decreases-loop-i
+decreases-loop-i l = l.count - l.i

@@ -1,0 +1,20 @@
+use Prim.Native.Nat.{ℕ, ◌+◌, ◌-◌, ◌≤◌}
+use native.Mathlib.Omega.{arith}
+use mathlib.Core.List.{List, [], ◌∷◌, map}
+use lib.ListN.{get_or}
+use borrow.Author.Rules.{rules}
+use Rattle.maps.specs.Lists.{below, concat}
+use Rattle.maps.specs.Form.{under}
+use Rattle.maps.specs.Write.{Entry, entry}
+use Rattle.maps.proofs.Numbers.{slice-below}
+use Rattle.fields.specs.Wrote.{Wrote}
+use Rattle.fields.specs.declared.Progress.TheVariants.{Next}
+use Rattle.fields.proofs.WroteLaws.{rows-room, wrote_none, wrote-wide, rows_next, rows-stop, rows_all}
+use Rattle.writer.proofs.parts.put_operands.Given as goal
+
+abbrev pub invariant-loop-i : goal.invariant-loop-i
+invariant-loop-i l =
+    (l.i ≤ l.count) × Wrote (concat (map (id l.operands l.own l.first) (below l.i))) l.initial.bytes l.bytes l.initial.to (Next l.to)
+
+abbrev pub decreases-loop-i : goal.decreases-loop-i
+decreases-loop-i l = l.count - l.i
