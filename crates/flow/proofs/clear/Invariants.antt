@@ -1,11 +1,5 @@
-use borrow.Author.Rules.{rules}
-use native.Mathlib.Omega.{arith}
-use native.Mathlib.Decide.{dec_lt}
-use Prim.Native.Nat.{ℕ, ◌-◌, ◌≤◌, ◌<◌}
-use mathlib.Core.Path.{◌≡◌, ◌∙◌}
-use lib.ListN.{length, length-set, get_or-eq_default}
+use Rattle.std.proofs.Common.{◌≡◌, ℕ, ◌-◌, ◌<◌, ◌≤◌, length}
 use Rattle.rows.specs.Cells.{cell}
-use Rattle.rows.proofs.Cells.{filled_more}
 use Rattle.flow.proofs.clear.Given as goal
 
 abbrev pub invariant-loop-i : goal.invariant-loop-i

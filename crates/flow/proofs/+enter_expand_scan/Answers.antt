@@ -1,0 +1,203 @@
+-- `enter`, `expand` and `scan`, which call each other, meet their contracts.
+use Rattle.std.proofs.Common.{arith, ◌∙◌, inl, inr, refl, sym, subst, ℕ, ◌+◌, ◌<◌, List, length}
+use Rattle.std.proofs.Math.ListN.{length-set}
+use Rattle.rows.specs.Cells.{cell}
+use Rattle.rows.specs.Table.{count_in}
+use Rattle.flow.specs.Search.{Flow, Link, Entered}
+use Rattle.rows.proofs.Cells as Cells
+use Rattle.flow.proofs.Laws as Laws
+use Rattle.flow.proofs.+enter_expand_scan.Goals as goal
+
+-- ---- enter
+
+pub enter-returns-then-c-eq4 : goal.enter-returns-then-c-eq4
+enter-returns-then-c-eq4 t c =
+    let a = c.args in
+    Laws.enter-late a.graph.now a.code.now a.seen.now a.above.now a.x a.from c.requires.startable.flow c.requires.link c.if-c-eq4.true
+
+pub enter-returns-then-seen-i-ne0 : goal.enter-returns-then-seen-i-ne0
+enter-returns-then-seen-i-ne0 t c =
+    let a = c.args in (
+      Laws.block_none a.graph.now a.code.now a.seen.now a.above.now,
+      Laws.entered-inside a.code.now a.seen.now a.x c.if-c-eq0.true c.if-seen-i-ne0.true,
+    )
+
+pub enter-expand-requires : goal.enter-expand-requires
+enter-expand-requires t c =
+    let a = c.args in
+    let z = c.if-c-eq0.true in
+    (omega arith, (c.requires.startable, (Laws.under-link a.graph.now a.code.now a.from a.x z c.requires.link, inr z)))
+
+pub enter-returns-then-c-eq0 : goal.enter-returns-then-c-eq0
+enter-returns-then-c-eq0 t c =
+    let a = c.args in
+    let e = c.expand in
+    Cells.ends-map e.result (λ d. d) (λ d. (d.0, Laws.entered-inside a.code.now e.new.seen a.x c.if-c-eq0.true d.1)) e.ensures
+
+pub enter-returns-then-seen-m-ne0 : goal.enter-returns-then-seen-m-ne0
+enter-returns-then-seen-m-ne0 t c =
+    let a = c.args in (
+      Laws.block_none a.graph.now a.code.now a.seen.now a.above.now,
+      Laws.entered-leaf a.code.now a.seen.now a.x c.if-c-eq0.false c.if-c-eq4.false c.if-seen-m-ne0.true,
+    )
+
+pub enter-expand-requires-2 : goal.enter-expand-requires-2
+enter-expand-requires-2 t c =
+    let a = c.args in
+    let s = c.requires.startable in
+    let in-s : a.x + 256 < length a.seen.now = omega arith in
+    let z = Cells.zeros-mark a.seen.now (a.x + 256) in-s c.if-seen-m-ne0.false in
+    let q = s.flow.low a.x s.node in (
+      omega arith,
+      (
+        record {
+          falling = s.falling;
+          marks = length-set a.seen.now (a.x + 256) 1 ∙ s.marks;
+          flow = s.flow;
+          node = q;
+          source = q;
+          below = omega arith;
+        },
+        (Laws.under-self a.graph.now a.code.now (cell a.above.now a.x), inl refl),
+      ),
+    )
+
+pub enter-returns-then-expand : goal.enter-returns-then-expand
+enter-returns-then-expand t c =
+    let a = c.args in
+    let s = c.requires.startable in
+    let in-s : a.x + 256 < length a.seen.now = omega arith in
+    let e = c.expand-2 in
+    Laws.enter-push a.graph.now a.code.now a.seen.now e.new.seen a.above.now e.new.above a.x a.from s.node in-s
+    c.if-seen-m-ne0.false c.if-c-eq0.false c.if-c-eq4.false s.source s.below c.requires.link c.if-expand.ensures
+
+pub enter-returns : goal.enter-returns
+enter-returns t c =
+    let a = c.args in
+    let s = c.requires.startable in
+    let in-s : a.x + 256 < length a.seen.now = omega arith in
+    let e = c.expand-2 in
+    let f = c.if-expand.ensures in
+    Laws.enter-block a.graph.now a.code.now a.seen.now e.new.seen a.above.now e.new.above a.x a.from s.node in-s
+    c.if-seen-m-ne0.false c.if-c-eq0.false c.if-c-eq4.false f.0 f.1
+
+-- ---- expand
+
+pub expand-returns-then-code-i-ge3 : goal.expand-returns-then-code-i-ge3
+expand-returns-then-code-i-ge3 t c =
+    let a = c.args in
+    Laws.expand-leaf a.graph.now a.code.now a.seen.now a.above.now a.p a.from c.requires.startable.flow c.requires.fact c.if-code-i-ge3.true
+
+pub expand-scan-requires : goal.expand-scan-requires
+expand-scan-requires t c =
+    let a = c.args in
+    let s = c.requires.startable in
+    let in-s : a.p < length a.seen.now = omega arith in
+    let z = Cells.zeros-mark a.seen.now a.p in-s c.if-seen-i-ne0.false in (
+      omega arith,
+      (
+        record {
+          falling = s.falling;
+          marks = length-set a.seen.now a.p 1 ∙ s.marks;
+          flow = s.flow;
+          node = s.node;
+          source = s.source;
+          below = s.below;
+        },
+        c.requires.under,
+      ),
+    )
+
+pub expand-returns-then-above-i : goal.expand-returns-then-above-i
+expand-returns-then-above-i t c =
+    let a = c.args in
+    let s = c.requires.startable in
+    let in-s : a.p < length a.seen.now = omega arith in
+    let e = c.scan in
+    let f = c.if-scan.ensures in
+    Laws.expand-stuck a.graph.now a.code.now a.seen.now e.new.seen a.above.now e.new.above a.p s.node in-s
+    c.if-seen-i-ne0.false c.if-code-i-ge3.false f.0 f.1 c.if-above-i.true
+
+pub expand-enter-requires : goal.expand-enter-requires
+expand-enter-requires t c =
+    let a = c.args in
+    let s = c.requires.startable in
+    let in-s : a.p < length a.seen.now = omega arith in
+    let z = Cells.zeros-mark a.seen.now a.p in-s c.if-seen-i-ne0.false in
+    let f = c.if-scan.ensures in
+    let w = f.0.fewer in (
+      omega arith,
+      (
+        record {
+          falling = s.falling;
+          marks = f.0.long ∙ length-set a.seen.now a.p 1 ∙ s.marks;
+          flow = subst (λ (l : List ℕ). Flow a.graph.now a.code.now l) (sym f.0.same) s.flow;
+          node = s.node;
+          source = s.node;
+          below = omega arith;
+        },
+        Laws.link-under a.graph.now a.code.now a.p a.p (Laws.under-self a.graph.now a.code.now a.p),
+      ),
+    )
+
+pub expand-returns : goal.expand-returns
+expand-returns t c =
+    let a = c.args in
+    let s = c.requires.startable in
+    let in-s : a.p < length a.seen.now = omega arith in
+    let e = c.scan in
+    let f = c.if-scan.ensures in
+    let g = c.enter in
+    Laws.expand-back a.graph.now a.code.now a.seen.now e.new.seen a.above.now e.new.above a.p s.node in-s
+    c.if-seen-i-ne0.false c.if-code-i-ge3.false f.0 f.1
+    g.new.seen g.new.above a.from g.result s.flow c.requires.fact c.if-above-i.false g.ensures
+
+-- ---- scan
+
+pub scan-enter-requires : goal.scan-enter-requires
+scan-enter-requires t c =
+    let a = c.args in
+    let s = c.requires.startable in
+    let few = s.falling.few a.p s.node in
+    let here : a.j < count_in a.graph.now a.p = omega (arith, c.if-count_in-j.false, c.count_in.ensures) in
+    let fall = s.falling.falls a.p a.j s.node here in
+    let y = c.operand_in-y.ensures in
+    let link = Laws.link-operand a.graph.now a.code.now a.from a.p a.j c.requires.under here in
+    let n = s.node in
+    let l = s.below in (
+      omega arith,
+      (
+        record { falling = s.falling; marks = s.marks; flow = s.flow; node = omega arith; source = s.source; below = omega arith },
+        subst (λ (x : ℕ). Link a.graph.now a.code.now a.from x) (sym y) link,
+      ),
+    )
+
+pub scan-scan-requires : goal.scan-scan-requires
+scan-scan-requires t c =
+    let a = c.args in
+    let s = c.requires.startable in
+    let few = s.falling.few a.p s.node in
+    let f = c.if-enter.ensures in
+    let w = f.0.fewer in (
+      omega arith,
+      (
+        record {
+          falling = s.falling;
+          marks = f.0.long ∙ s.marks;
+          flow = subst (λ (l : List ℕ). Flow a.graph.now a.code.now l) (sym f.0.same) s.flow;
+          node = s.node;
+          source = s.source;
+          below = s.below;
+        },
+        c.requires.under,
+      ),
+    )
+
+pub scan-returns : goal.scan-returns
+scan-returns t c =
+    let a = c.args in
+    let e = c.enter in
+    let f = c.if-enter.ensures in
+    let g = c.scan in
+    Laws.scan-more a.graph.now a.code.now a.seen.now e.new.seen g.new.seen a.above.now e.new.above g.new.above a.p a.j a.from g.result f.0
+    (subst (λ (x : ℕ). Entered a.code.now e.new.seen x) c.operand_in-y.ensures f.1) g.ensures
