@@ -28,6 +28,7 @@ use Rattle.cut.proofs.Joined.{joined, joined-root, joined_in, joined-le, joined-
 
 -- an element stands at a place
 member-place : {u : ℕ} (us : List ℕ) → Memᴰ u us → (j : ℕ) × (j < length us) × (get_or us j 0 ≡ u)
+member-place {u = u} [] x' = elim x' [ ]
 member-place (x ∷ xs) (Memᴰ.head e) = (0, omega arith, sym e)
 member-place (x ∷ xs) (Memᴰ.tail m) = let r = member-place xs m in let l = r.1 in (suc r.0, omega arith, r.2)
 

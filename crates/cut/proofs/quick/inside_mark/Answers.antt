@@ -1,0 +1,7 @@
+-- `cut::inside_mark` meets its contract.
+use borrow.Author.Rules.{rules}
+use Rattle.cut.proofs.WalkFirst.{no-mark}
+use Rattle.cut.proofs.quick.inside_mark.Goals as goal
+
+pub returns : goal.returns
+returns c = no-mark c.args.code c.if-code-eq0.false
