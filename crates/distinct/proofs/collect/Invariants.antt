@@ -1,9 +1,7 @@
 use Prim.Native.Nat.{◌-◌}
-use mathlib.Core.Path.{◌≡◌, refl, ◌∙◌}
-use borrow.Author.Rules.{rules}
-use native.Mathlib.Omega.{arith}
-use lib.ListN.{length, length-set}
-use Rattle.distinct.proofs.Collecting.{Collected, collected-none, first-inside, collected-next, collected-all}
+use mathlib.Core.Path.{◌≡◌}
+use lib.ListN.{length}
+use Rattle.distinct.proofs.Collecting.{Collected}
 use Rattle.distinct.proofs.collect.Given as goal
 
 abbrev pub invariant-loop-i : goal.invariant-loop-i

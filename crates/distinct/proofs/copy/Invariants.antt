@@ -1,12 +1,7 @@
+-- The elements before i are copied.
 use Prim.Native.Nat.{◌-◌, ◌≤◌}
-use mathlib.Core.Path.{◌≡◌, sym, ap, ◌∙◌}
-use mathlib.Core.List.{◌∷◌, [], ◌++◌}
-use borrow.Author.Rules.{rules}
-use native.Mathlib.Omega.{arith}
-use lib.ListN.{length, get_or, take, length-set}
-use lib.Seq.{take_all}
-use Rattle.blif.proofs.Positions.{take_next}
-use Rattle.distinct.proofs.Filling.{take-write}
+use mathlib.Core.Path.{◌≡◌}
+use lib.ListN.{length, take}
 use Rattle.distinct.proofs.copy.Given as goal
 
 abbrev pub invariant-loop-i : goal.invariant-loop-i

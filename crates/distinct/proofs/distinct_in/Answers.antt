@@ -1,5 +1,4 @@
 -- `distinct::distinct_in` meets its contract.
-use borrow.Author.Rules.{rules}
 use mathlib.Core.Path.{ap, ◌∙◌}
 use mathlib.Core.List.{[]}
 use Rattle.blif.specs.Names.{fresh}

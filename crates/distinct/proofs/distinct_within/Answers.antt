@@ -1,12 +1,8 @@
 -- `distinct::distinct_within` meets its contract.
-use borrow.Author.Rules.{rules}
 use native.Mathlib.Omega.{arith}
-use mathlib.Core.Path.{sym, ◌∙◌}
+use mathlib.Core.Path.{◌∙◌}
 use lib.Seq.{length-take-le}
 use Rattle.distinct.proofs.distinct_within.Goals as goal
-
-pub slice_bounds-distinct_in-end-2 : goal.slice_bounds-distinct_in-end-2
-slice_bounds-distinct_in-end-2 c = sym (length-take-le c.args.count c.args.words.now c.requires.count_in_bounds.0)
 
 pub distinct_in-requires : goal.distinct_in-requires
 distinct_in-requires c =

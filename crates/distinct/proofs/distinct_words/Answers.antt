@@ -1,5 +1,4 @@
 -- `distinct::distinct_words` meets its contract.
-use borrow.Author.Rules.{rules}
 use native.Mathlib.Omega.{arith}
 use Rattle.blif.proofs.Walking.{words-count-most}
 use Rattle.distinct.proofs.distinct_words.Goals as goal

@@ -1,5 +1,4 @@
 -- `distinct::heads` meets its contract.
-use borrow.Author.Rules.{rules}
 use native.Mathlib.Omega.{arith}
 use Rattle.distinct.proofs.Placing.{heads-both}
 use Rattle.distinct.proofs.heads.Goals as goal
@@ -9,12 +8,6 @@ returns-then-xs-i c = (omega (arith, c.requires), λ l. absurd (omega (arith, c.
 
 pub returns-then-ys-j : goal.returns-then-ys-j
 returns-then-ys-j c = (omega (arith, c.if-xs-i.false), λ l. absurd (omega (arith, c.if-ys-j.true)))
-
-pub overflow_cast-a : goal.overflow_cast-a
-overflow_cast-a c = omega (arith, c.shared_slice_known-4-1.given c.args.i)
-
-pub overflow_cast-b : goal.overflow_cast-b
-overflow_cast-b c = omega (arith, c.shared_slice_known-5-1.given c.args.j)
 
 pub returns : goal.returns
 returns c =

@@ -1,5 +1,4 @@
 -- `distinct::merge_parts` meets its contract.
-use borrow.Author.Rules.{rules}
 use native.Mathlib.Omega.{arith}
 use mathlib.Core.Path.{sym, subst}
 use mathlib.Core.List.{List}
@@ -11,15 +10,22 @@ use Rattle.distinct.proofs.Placing.{sorted-parts}
 use Rattle.distinct.proofs.merge_parts.Goals as goal
 
 pub slice_bounds-merge-end : goal.slice_bounds-merge-end
-slice_bounds-merge-end c = let s = c.before.before.before.before in sym (length-take-le s.args.half s.args.words.now s.requires.0.0)
+slice_bounds-merge-end c = sym (length-take-le c.args.half c.args.words.now c.requires.half_in_bounds.0)
 
 pub merge-requires : goal.merge-requires
 merge-requires c =
-    let s = c.before.before.before.before.before.before in
-    let l = s.args.words.now in
-    record { ys_in_bounds = omega (arith, parts-length l s.args.half s.requires.0.0, s.requires.0.1); ascending = (s.requires.1.0, subst (λ (r : List ℕ). Ascending (names s.args.text.now r)) (sym (rest_all l s.args.half)) s.requires.1.1) }
+    let a = c.args in
+    let r = c.requires in
+    record {
+      ys_in_bounds = omega (arith, parts-length a.words.now a.half r.half_in_bounds.0, r.half_in_bounds.1);
+      ascending = (
+        r.ascending.0,
+        subst (λ (l : List ℕ). Ascending (names a.text.now l)) (sym (rest_all a.words.now a.half)) r.ascending.1,
+      );
+    }
 
 pub returns : goal.returns
 returns c =
-    let s = m.before.before.before.before.before.before.before in
-    (c.merge.ensures.0, sorted-parts s.args.text.now s.args.words.now c.merge.new.out s.args.half c.merge.result s.requires.0.0 c.merge.ensures.1)
+    let a = c.args in
+    let m = c.merge in
+    (m.ensures.0, sorted-parts a.text.now a.words.now m.new.out a.half m.result c.requires.half_in_bounds.0 m.ensures.1)

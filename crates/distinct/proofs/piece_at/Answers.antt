@@ -1,5 +1,4 @@
 -- `distinct::piece_at` meets its contract.
-use borrow.Author.Rules.{rules}
 use mathlib.Core.Path.{sym, ◌∙◌}
 use Rattle.blif.specs.Scan.{ends_line}
 use Rattle.blif.proofs.Positions.{until_end}

@@ -1,10 +1,7 @@
-use Prim.Native.Nat.{ℕ, ◌+◌, ◌-◌}
-use mathlib.Core.Path.{◌≡◌, refl, ◌∙◌}
-use borrow.Author.Rules.{rules}
-use native.Mathlib.Omega.{arith}
-use lib.ListN.{length, length-set}
-use Rattle.blif.specs.Lines.{comment}
-use Rattle.distinct.proofs.Unjoining.{Copied, copied_none, join-inside, byte_inside, copied-end, copied-join, copied_byte}
+use Prim.Native.Nat.{◌+◌, ◌-◌}
+use mathlib.Core.Path.{◌≡◌}
+use lib.ListN.{length}
+use Rattle.distinct.proofs.Unjoining.{Copied}
 use Rattle.distinct.proofs.unjoin.Given as goal
 
 abbrev pub invariant-loop-n : goal.invariant-loop-n
