@@ -8,7 +8,7 @@ use lib.ListN.{length, take, drop, length-drop}
 use lib.Seq.{length-take-le}
 use Rattle.maps.specs.Lists.{All}
 use Rattle.maps.specs.Limits.{top_range}
-use Rattle.maps.specs.Form.{under, passes}
+use Rattle.maps.specs.Form.{under}
 use Rattle.maps.specs.Write.{Entry, entry, head_entries, Passes}
 use Rattle.maps.specs.Sizes.{id_bytes_most, bytes_most, node_bytes_most}
 use Rattle.maps.proofs.WrittenSize.{head-ids-most, most-append, ids-most}

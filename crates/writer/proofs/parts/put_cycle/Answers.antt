@@ -1,10 +1,9 @@
 -- `parts::put_cycle` meets its contract: the period with the count of windows, then the windows.
 use native.Mathlib.Omega.{arith}
 use mathlib.Core.List.{map}
-use borrow.Author.Rules.{rules}
 use Rattle.maps.specs.Lists.{below, concat}
 use Rattle.records.specs.Rows.{window_entries, box_at}
-use Rattle.fields.proofs.WroteLaws.{begun, stopped, last_one, wrote-wide, room-left, room-less}
+use Rattle.fields.proofs.WroteLaws.{begun, stopped, last_one, room-left, room-less}
 use Rattle.writer.proofs.WindowRows.{cycle-in, cycled}
 use Rattle.writer.proofs.parts.put_cycle.Goals as goal
 

@@ -1,13 +1,9 @@
 use Prim.Native.Nat.{◌-◌, ◌≤◌}
-use native.Mathlib.Omega.{arith}
 use mathlib.Core.List.{map}
-use borrow.Author.Rules.{rules}
 use Rattle.maps.specs.Lists.{below, concat}
 use Rattle.records.specs.Rows.{difference_entries}
 use Rattle.fields.specs.Wrote.{Wrote}
 use Rattle.fields.specs.declared.Progress.TheVariants.{Next}
-use Rattle.maps.proofs.WrittenSize.{id-bytes}
-use Rattle.fields.proofs.WroteLaws.{rows-room, wrote_none, wrote-wide, rows_next, rows-stop, rows_all}
 use Rattle.writer.proofs.parts.put_differences.Given as goal
 
 abbrev pub invariant-loop-j : goal.invariant-loop-j

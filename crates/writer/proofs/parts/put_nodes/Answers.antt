@@ -1,14 +1,8 @@
 -- `parts::put_nodes` meets its contract. The invariant: the first v nodes are written, and the operands of node v begin at `first`.
-use Prim.Native.Nat.{◌-◌, ◌≤◌}
 use native.Mathlib.Omega.{arith}
-use mathlib.Core.Path.{◌≡◌, refl}
-use mathlib.Core.List.{map}
-use borrow.Author.Rules.{rules}
-use Rattle.maps.specs.Lists.{below, concat}
-use Rattle.records.specs.Rows.{end_of, node_entries}
-use Rattle.fields.specs.Wrote.{Wrote}
-use Rattle.fields.specs.declared.Progress.TheVariants.{Next}
-use Rattle.fields.proofs.WroteLaws.{rows-room, wrote_none, wrote-wide, rows_next, rows-stop, rows_all}
+use mathlib.Core.Path.{refl}
+use Rattle.records.specs.Rows.{node_entries}
+use Rattle.fields.proofs.WroteLaws.{rows-room, wrote_none, rows_next, rows-stop, rows_all}
 use Rattle.writer.proofs.NodeRows.{node-bytes}
 use Rattle.writer.proofs.parts.put_nodes.Goals as goal
 

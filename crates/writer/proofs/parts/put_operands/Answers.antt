@@ -1,20 +1,11 @@
 -- `parts::put_operands` meets its contract. The invariant: the first i ids are written.
-use Prim.Native.Nat.{ℕ, ◌+◌, ◌-◌, ◌≤◌}
 use native.Mathlib.Omega.{arith}
-use mathlib.Core.List.{List, [], ◌∷◌, map}
-use lib.ListN.{get_or}
-use borrow.Author.Rules.{rules}
-use Rattle.maps.specs.Lists.{below, concat}
 use Rattle.maps.specs.Form.{under}
-use Rattle.maps.specs.Write.{Entry, entry}
+use Rattle.maps.specs.Write.{entry}
 use Rattle.maps.proofs.Numbers.{slice-below}
-use Rattle.fields.specs.Wrote.{Wrote}
-use Rattle.fields.specs.declared.Progress.TheVariants.{Next}
-use Rattle.fields.proofs.WroteLaws.{rows-room, wrote_none, wrote-wide, rows_next, rows-stop, rows_all}
+use Rattle.fields.proofs.WroteLaws.{rows-room, wrote_none, rows_next, rows-stop, rows_all}
+use Rattle.writer.proofs.parts.put_operands.Invariants.{id}
 use Rattle.writer.proofs.parts.put_operands.Goals as goal
-
-abbrev id : (operands : List ℕ) (own first : ℕ) → ℕ → List Entry
-id operands own first j = entry (under own) (get_or operands (first + j) 0) ∷ []
 
 pub loop-i-init : goal.loop-i-init
 loop-i-init c = (omega arith, wrote_none _ _)

@@ -1,16 +1,16 @@
 use Prim.Native.Nat.{ℕ, ◌+◌, ◌-◌, ◌≤◌}
-use native.Mathlib.Omega.{arith}
 use mathlib.Core.List.{List, [], ◌∷◌, map}
 use lib.ListN.{get_or}
-use borrow.Author.Rules.{rules}
 use Rattle.maps.specs.Lists.{below, concat}
 use Rattle.maps.specs.Form.{under}
 use Rattle.maps.specs.Write.{Entry, entry}
-use Rattle.maps.proofs.Numbers.{slice-below}
 use Rattle.fields.specs.Wrote.{Wrote}
 use Rattle.fields.specs.declared.Progress.TheVariants.{Next}
-use Rattle.fields.proofs.WroteLaws.{rows-room, wrote_none, wrote-wide, rows_next, rows-stop, rows_all}
 use Rattle.writer.proofs.parts.put_operands.Given as goal
+
+-- the numbers of operand j
+abbrev pub id : (operands : List ℕ) (own first : ℕ) → ℕ → List Entry
+id operands own first j = entry (under own) (get_or operands (first + j) 0) ∷ []
 
 abbrev pub invariant-loop-i : goal.invariant-loop-i
 invariant-loop-i l =

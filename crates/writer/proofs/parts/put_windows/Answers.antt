@@ -1,15 +1,9 @@
 -- `parts::put_windows` meets its contract. The invariant: the first j windows are written, and the next one's id is at least `low`.
-use Prim.Native.Nat.{◌-◌, ◌≤◌}
 use native.Mathlib.Omega.{arith}
-use mathlib.Core.Path.{◌≡◌, refl, ap}
-use mathlib.Core.List.{map}
-use borrow.Author.Rules.{rules}
-use Rattle.maps.specs.Lists.{below, concat}
-use Rattle.records.specs.Rows.{window_in, low_in, window_entries, box_at}
+use mathlib.Core.Path.{refl, ap}
+use Rattle.records.specs.Rows.{window_in, window_entries, box_at}
 use Rattle.records.specs.declared.WindowRow.{WindowRow}
-use Rattle.fields.specs.Wrote.{Wrote}
-use Rattle.fields.specs.declared.Progress.TheVariants.{Next}
-use Rattle.fields.proofs.WroteLaws.{begun, rows-room, wrote_none, wrote-wide, rows_next, rows-stop, rows_all}
+use Rattle.fields.proofs.WroteLaws.{begun, rows-room, wrote_none, rows_next, rows-stop, rows_all}
 use Rattle.writer.proofs.WindowRows.{window_bytes, window-id, low-next}
 use Rattle.writer.proofs.parts.put_windows.Goals as goal
 
