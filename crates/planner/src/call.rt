@@ -131,8 +131,7 @@ pub fn plan(sheet: &[u8], buffer: &mut [u8]) -> Outcome
     }
 }
 
-#[unsafe(no_mangle)]
-pub extern "C" fn maps_plan(sheet: &[u8], buffer: &mut [u8]) -> Answer
+pub fn maps_plan(sheet: &[u8], buffer: &mut [u8]) -> Answer
     ensures { Answered (outcome sheet.now (length buffer.old)) result.number result.place buffer.old buffer.new }
 {
     answer_of(plan(sheet, buffer))

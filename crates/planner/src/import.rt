@@ -7,8 +7,7 @@ ghost use Rattle.blif.specs.Import.{importing};
 use out_bytes::{Answer, answer_of};
 use importer::import_blif;
 
-#[unsafe(no_mangle)]
-pub extern "C" fn maps_import(
+pub fn maps_import(
     text: &[u8],
     leaves: u32,
     top: u32,

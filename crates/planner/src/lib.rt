@@ -1,4 +1,4 @@
-// The library: the planning call, the call that writes a sheet and the one that imports a BLIF text, each with its C export.
+// The library: the planning call, the call that writes a sheet and the one that imports a BLIF text.
 #![tactic(auto)]
 
 mod call;

@@ -7,8 +7,7 @@ ghost use Rattle.records.specs.Rows.{records_in};
 use out_bytes::{Answer, answer_of};
 use writer::write;
 
-#[unsafe(no_mangle)]
-pub extern "C" fn maps_write_rows(
+pub fn maps_write_rows(
     leaves: u32,
     top: u32,
     horizon: u32,

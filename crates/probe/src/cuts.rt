@@ -70,8 +70,7 @@ fn write_cut(leaves: &[u32; 8], list: &mut [u32; 8], count: u32)
 }
 
 // 1 where v has an allowed cut of at most k leaves, 0 where it has none, 255 where the question is outside the sheet.
-#[unsafe(no_mangle)]
-pub extern "C" fn maps_has_cut(sheet: &[u8], allowed: &[u8; 256], v: u32, k: u32) -> u32
+pub fn maps_has_cut(sheet: &[u8], allowed: &[u8; 256], v: u32, k: u32) -> u32
     ensures { HasCut sheet.now allowed.now v k result }
 {
     let mut graph = [0u32; 4096];
@@ -89,8 +88,7 @@ pub extern "C" fn maps_has_cut(sheet: &[u8], allowed: &[u8; 256], v: u32, k: u32
 
 // The number of leaves of the chosen one of the allowed cuts of v, which `list` then holds, with 0 after its leaves; k + 1 where every allowed
 // cut has more than k leaves or there is none, and 255 where the question is outside the sheet: `list` then keeps its values.
-#[unsafe(no_mangle)]
-pub extern "C" fn maps_cut(
+pub fn maps_cut(
     sheet: &[u8],
     allowed: &[u8; 256],
     v: u32,

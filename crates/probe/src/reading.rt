@@ -14,8 +14,7 @@ pub struct ReadAnswer {
     pub place: u64,
 }
 
-#[unsafe(no_mangle)]
-pub extern "C" fn maps_read(
+pub fn maps_read(
     sheet: &[u8],
     graph: &mut Graph,
     differences: &mut Differences,

@@ -1,0 +1,22 @@
+use Prim.Native.Nat.{ℕ, ◌-◌, ◌≤◌, ◌<◌}
+use mathlib.Core.Path.{◌≡◌, refl, sym, ap, ◌∙◌}
+use mathlib.Core.Bool.{Bool, true}
+use mathlib.Core.List.{[]}
+use borrow.Author.Rules.{rules}
+use borrow.Author.Tests.{le-leb, lt-leb}
+use native.Mathlib.Omega.{arith}
+use lib.Dec.{leb}
+use lib.ListN.{length, get_or, take, drop}
+use Rattle.maps.specs.Lists.{all}
+use Rattle.blif.specs.Words.{Word}
+use Rattle.blif.specs.Scan.{words_at}
+use Rattle.blif.specs.Limits.{name_most}
+use Rattle.blif.proofs.Walking.{word-here, words-after}
+use Rattle.grounds.proofs.KeepLaws.{all_more, one-fails}
+use Rattle.grounds.proofs.all_short.Given as goal
+
+abbrev pub invariant-loop-i : goal.invariant-loop-i
+invariant-loop-i l = (l.i ≤ l.k) × (words_at l.text l.at ≡ drop l.i (words_at l.text l.start)) × (all short (take l.i (words_at l.text l.start)) ≡ true)
+
+abbrev pub decreases-loop-i : goal.decreases-loop-i
+decreases-loop-i l = l.k - l.i
