@@ -14,11 +14,8 @@ use Rattle.blif.specs.Scan.{words_at}
 use Rattle.blif.specs.Limits.{name_most}
 use Rattle.blif.proofs.Walking.{word-here, words-after}
 use Rattle.grounds.proofs.KeepLaws.{all_more, one-fails}
+use Rattle.grounds.proofs.all_short.Invariants.{short}
 use Rattle.grounds.proofs.all_short.Goals as goal
-
--- a name of at most 31 bytes
-abbrev short : Word → Bool
-short w = leb (length w) name_most
 
 pub loop-i-init : goal.loop-i-init
 loop-i-init c = (omega arith, refl, refl)

@@ -15,6 +15,10 @@ use Rattle.blif.proofs.Walking.{word-here, words-after}
 use Rattle.grounds.proofs.KeepLaws.{all_more, one-fails}
 use Rattle.grounds.proofs.all_short.Given as goal
 
+-- a name of at most 31 bytes
+abbrev pub short : Word → Bool
+short w = leb (length w) name_most
+
 abbrev pub invariant-loop-i : goal.invariant-loop-i
 invariant-loop-i l = (l.i ≤ l.k) × (words_at l.text l.at ≡ drop l.i (words_at l.text l.start)) × (all short (take l.i (words_at l.text l.start)) ≡ true)
 
