@@ -95,7 +95,7 @@ module _ (s : List ℕ) where
           → Fills (λ v. store_from g (node_place own) (node_row v)) (and_then x (λ us last. got (node_of h us) last)) t
       tail h next (got us last) t e went =
           subst (λ (l : List ℕ). Fills (λ v. store_from g (node_place own) (node_row v)) (got (node_of h us) last) (filled (got tt last) l))
-          (sym (singles (operand_place own) 0 (store_from g (node_place own) (head_row h)) us ∙ behind g (node_place own) h us (counted _ _ _ s next us last e)))
+          (sym (singles (operand_place own) 0 (store_from g (node_place own) (head_row h)) us ∙ behind g (node_place own) h us (counted (λ i. asked (under own)) 0 h.count s next us last e)))
           went
       tail h next (refusal k p) t e stopped = stopped
 

@@ -1,6 +1,5 @@
 -- `fill::read_difference` meets its contract.
 use Rattle.sheet.specs.Fill.{got_on, difference_into}
-use borrow.Author.Rules.{rules}
 use Rattle.sheet.proofs.fill.read_difference.Goals as goal
 
 pub returns-in-Refused : goal.returns-in-Refused

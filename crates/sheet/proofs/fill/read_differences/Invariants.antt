@@ -1,12 +1,7 @@
 use Prim.Native.Nat.{◌-◌, ◌≤◌}
-use mathlib.Core.Path.{◌≡◌, refl, sym, ap, ◌∙◌}
-use borrow.Author.Rules.{rules}
-use native.Mathlib.Nat.{sub-zero}
-use native.Mathlib.Omega.{arith}
+use mathlib.Core.Path.{◌≡◌}
 use lib.ListN.{length}
-use Rattle.sheet.specs.Code.{progress_meant}
 use Rattle.sheet.specs.Fill.{repeat_into, difference_into}
-use Rattle.sheet.proofs.Turns.{turn, stop, done}
 use Rattle.sheet.proofs.fill.read_differences.Given as goal
 
 abbrev pub invariant-loop-i : goal.invariant-loop-i

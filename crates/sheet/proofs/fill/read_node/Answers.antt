@@ -4,7 +4,6 @@ use native.Mathlib.Omega.{arith}
 use Rattle.maps.proofs.Parse.{head_few}
 use Rattle.sheet.specs.Code.{head_read}
 use Rattle.sheet.specs.Fill.{got_on, node_into}
-use borrow.Author.Rules.{rules}
 use Rattle.sheet.proofs.fill.read_node.Goals as goal
 
 pub read_operands-requires : goal.read_operands-requires
@@ -12,7 +11,7 @@ read_operands-requires c =
     omega (
       arith,
       head_few _ _ _ _ _ (sym c.head_at-head.ensures ∙ ap head_read c.in-Head.is),
-      c.store_head.auto.0,
+      c.store_head.auto.graph,
       c.requires,
     )
 

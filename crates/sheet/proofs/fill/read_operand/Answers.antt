@@ -1,6 +1,5 @@
 -- `fill::read_operand` meets its contract.
 use Rattle.sheet.specs.Fill.{got_on, operand_into}
-use borrow.Author.Rules.{rules}
 use Rattle.sheet.proofs.fill.read_operand.Goals as goal
 
 pub returns-in_default : goal.returns-in_default

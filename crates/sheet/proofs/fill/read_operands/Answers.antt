@@ -1,13 +1,9 @@
 -- `sheet::read_operands` meets its contract: one operand a turn.
-use Prim.Native.Nat.{◌-◌, ◌≤◌}
-use mathlib.Core.Path.{◌≡◌, refl, sym, ap, ◌∙◌}
+use mathlib.Core.Path.{refl, sym, ap, ◌∙◌}
 use borrow.Author.Rules.{rules}
 use native.Mathlib.Nat.{sub-zero}
 use native.Mathlib.Omega.{arith}
-use lib.ListN.{length}
 use Rattle.sheet.specs.Code.{progress_meant}
-use Rattle.rows.specs.Table.{operand_place}
-use Rattle.sheet.specs.Fill.{repeat_into, operand_into}
 use Rattle.sheet.proofs.Turns.{turn, stop, done}
 use Rattle.sheet.proofs.fill.read_operands.Goals as goal
 

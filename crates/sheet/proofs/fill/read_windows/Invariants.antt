@@ -1,18 +1,8 @@
-use Prim.Native.Nat.{ℕ, ◌-◌, ◌≤◌, ◌<◌}
-use mathlib.Core.Path.{◌≡◌, refl, sym, ap, ◌∙◌}
-use mathlib.Core.Bool.{Bool}
-use borrow.Author.Rules.{rules}
-use native.Mathlib.Nat.{sub-zero}
-use native.Mathlib.Omega.{arith}
+use Prim.Native.Nat.{◌-◌, ◌≤◌}
+use mathlib.Core.Path.{◌≡◌}
 use lib.ListN.{length}
-use Rattle.maps.specs.Form.{read}
-use Rattle.maps.specs.Read.{window_form}
-use Rattle.maps.proofs.Parse.{window-inside}
 use Rattle.rows.specs.Table.{boxes_in}
-use Rattle.window_read.specs.Code.{entry_meant, window_read}
 use Rattle.sheet.specs.Fill.{windows_into}
-use Rattle.sheet.proofs.Boxes.{boxes-kept}
-use Rattle.sheet.proofs.Turns.{window-turn, window-stop, windows-done}
 use Rattle.sheet.proofs.fill.read_windows.Given as goal
 
 abbrev pub invariant-loop-i : goal.invariant-loop-i

@@ -1,5 +1,4 @@
 -- `sheet::back_of` meets its contract.
-use borrow.Author.Rules.{rules}
 use borrow.Author.Tests.{eq-eqb, ne_eqb}
 use native.Mathlib.Omega.{arith}
 use Rattle.sheet.proofs.node.back_of.Goals as goal

@@ -1,7 +1,6 @@
 -- `node::difference_at` meets its contract: one number after the other, as the definition reads them.
 use Rattle.maps.specs.Read.{difference_form}
 use Rattle.ranges.proofs.RangeLaws.{ids-right}
-use borrow.Author.Rules.{rules}
 use Rattle.sheet.proofs.node.difference_at.Goals as goal
 
 pub returns-in_default : goal.returns-in_default

@@ -1,7 +1,6 @@
 -- `node::head_at` meets its contract: one number after the other, each in the range that the table gives for the kind.
 use Rattle.maps.specs.Read.{head_form}
 use Rattle.ranges.proofs.RangeLaws.{delays-right, latencies-right, clocks-right, operands-right}
-use borrow.Author.Rules.{rules}
 use Rattle.sheet.proofs.node.head_at.Goals as goal
 
 pub returns-in_default : goal.returns-in_default

@@ -1,6 +1,5 @@
 -- `reader::fill_rows` meets its contract: nodes, differences, period and entries.
 use Rattle.sheet.specs.Fill.{got_on, rows_into}
-use borrow.Author.Rules.{rules}
 use Rattle.sheet.proofs.reader.fill_rows.Goals as goal
 
 pub returns-in-Refused : goal.returns-in-Refused

@@ -1,6 +1,5 @@
 -- `reader::header_at` meets its contract: one number after the other, each in its range.
 use Rattle.maps.specs.Read.{header_form}
-use borrow.Author.Rules.{rules}
 use Rattle.sheet.proofs.reader.header_at.Goals as goal
 
 pub returns-in_default : goal.returns-in_default

@@ -3,7 +3,6 @@ use mathlib.Core.Path.{sym, ap, ◌∙◌}
 use Rattle.maps.proofs.Parse.{header-well}
 use Rattle.sheet.specs.Code.{header_read}
 use Rattle.sheet.specs.Fill.{got_on, tables_into}
-use borrow.Author.Rules.{rules}
 use Rattle.sheet.proofs.reader.read_sheet.Goals as goal
 
 pub fill_rows-requires : goal.fill_rows-requires
