@@ -13,8 +13,8 @@ ghost use Rattle.out_bytes.specs.Put.{Put};
 ghost use Rattle.writing.specs.Writing.{Writable};
 
 use bound::{Levels, Steps, label_of};
-use out_bytes::put;
 use level::{Cuts, leaf_count_in, leaf_in};
+use out_bytes::put;
 
 // Room for the longest plan.
 pub type PlanBytes = [u8; 4611];

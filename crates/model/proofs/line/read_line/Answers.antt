@@ -1,0 +1,20 @@
+-- `line::read_line` meets its contract.
+use mathlib.Core.Path.{◌≡◌, refl, sym, ◌∙◌}
+use borrow.Author.Rules.{rules}
+use Rattle.blif.proofs.Walking.{words-none}
+use Rattle.model.proofs.Turning.{turn-empty}
+use Rattle.model.proofs.line.read_line.Goals as goal
+
+pub returns-then-line_ends : goal.returns-then-line_ends
+returns-then-line_ends c =
+    let first = c.after_blanks-first in
+    λ M k. turn-empty c.args.text.now c.args.delay c.args.at c.args.state.stage M c.args.state refl
+    (words-none c.args.text.now c.args.at first.result first.ensures.0 (sym c.line_ends.ensures ∙ c.if-line_ends.true)) k
+
+pub read_words-requires : goal.read_words-requires
+read_words-requires c =
+    let first = c.after_blanks-first in
+    record { at_in_bounds = (c.requires.at_in_bounds.0, c.requires.at_in_bounds.1, first.ensures.0, sym c.line_ends.ensures ∙ c.if-line_ends.false); kept = c.requires.kept }
+
+pub returns : goal.returns
+returns c = c.read_words.ensures

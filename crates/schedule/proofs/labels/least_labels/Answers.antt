@@ -1,0 +1,9 @@
+-- `labels::least_labels` meets its contract.
+use borrow.Author.Rules.{rules}
+use Rattle.schedule.proofs.Rounds.{labels-end}
+use Rattle.schedule.proofs.labels.least_labels.Goals as goal
+
+pub returns : goal.returns
+returns c S given kept cuts =
+    let r = c.seek in
+    labels-end given cuts _ r.new.steps r.new.levels r.result (r.ensures S given kept)
