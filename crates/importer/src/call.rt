@@ -8,10 +8,10 @@ ghost use Rattle.blif.specs.Import.{importing};
 ghost use Rattle.definitions.specs.Kept.{Kept};
 
 use crate::caller::{delay_of, is_callable};
-use out_bytes::Outcome;
 use definitions::Size;
 use model::{Model, read_model};
 use names::Names;
+use out_bytes::Outcome;
 use outputs::{Marked, mark_outputs};
 use records::NODE;
 use types::Refusal;

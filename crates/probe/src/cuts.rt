@@ -88,13 +88,7 @@ pub fn maps_has_cut(sheet: &[u8], allowed: &[u8; 256], v: u32, k: u32) -> u32
 
 // The number of leaves of the chosen one of the allowed cuts of v, which `list` then holds, with 0 after its leaves; k + 1 where every allowed
 // cut has more than k leaves or there is none, and 255 where the question is outside the sheet: `list` then keeps its values.
-pub fn maps_cut(
-    sheet: &[u8],
-    allowed: &[u8; 256],
-    v: u32,
-    k: u32,
-    list: &mut [u32; 8],
-) -> u32
+pub fn maps_cut(sheet: &[u8], allowed: &[u8; 256], v: u32, k: u32, list: &mut [u32; 8]) -> u32
     ensures { CutAnswer sheet.now allowed.now v k list.old result list.new }
 {
     let mut graph = [0u32; 4096];

@@ -14,11 +14,7 @@ pub struct ReadAnswer {
     pub place: u64,
 }
 
-pub fn maps_read(
-    sheet: &[u8],
-    graph: &mut Graph,
-    differences: &mut Differences,
-) -> ReadAnswer
+pub fn maps_read(sheet: &[u8], graph: &mut Graph, differences: &mut Differences) -> ReadAnswer
     ensures { (result.number ≡ answer_number (read_after (parse sheet.now) graph.old differences.old).answer)
         × (result.place ≡ answer_place (read_after (parse sheet.now) graph.old differences.old).answer)
         × (graph.new ≡ (read_after (parse sheet.now) graph.old differences.old).graph)

@@ -1,12 +1,12 @@
 -- `labels::heed` meets its contract.
 use mathlib.Core.Path.{sym, subst}
 use mathlib.Core.List.{List}
-use mathlib.Core.Logic.{⊎_elim}
 use Prim.Native.Nat.{ℕ}
 use Rattle.bound.specs.Lookup.{Heeding}
 use Rattle.bound.proofs.Safety.{few-nodes, few-differences, summed-all}
 use Rattle.hold.proofs.HoldMarks.{not-both}
 use Rattle.sweep.proofs.Freezing.{frozen-heeding, thawed-heeding}
+use Rattle.schedule.proofs.labels.heed.Goals.{then-mode+else-some_float, else-mode, then-mode-2, else-mode-2}
 use Rattle.schedule.proofs.labels.heed.Goals as goal
 
 pub some_float-requires : goal.some_float-requires
@@ -28,11 +28,16 @@ returns c =
     let p = c.requires in
     let a = c.args in
     let H : List ℕ → Type 0 = λ h. Heeding a.differences.now a.limits.differences h a.next.now in
-    let q : H c.if-mode-2.heeded =
-    ⊎_elim (λ w. subst H (sym w.5) (frozen-heeding p.linked w.3.ensures.0)) (λ w. subst H (sym w.2) p.heeding) c.if-mode-2.branch in
+    let q : H c.if-mode-2.heeded = elim c.if-mode-2.branch [
+      | then-mode-2 w ↦ subst H (sym w.heeded-is) (frozen-heeding p.linked w.freeze.ensures.frozen)
+      | else-mode-2 w ↦ subst H (sym w.heeded-is) p.heeding
+    ] in
     let r = thawed-heeding c.if-mode-2.heeded c.thaw.new.heeded p.linked q p.some_fails c.thaw.ensures in
     record {
       heeding = r.0;
       fails = r.1;
-      held = λ t. ⊎_elim (λ w. rw w.2.left at w.1.ensures) (λ w. absurd (not-both t w.left)) c.if-mode.branch;
+      held = λ t. elim c.if-mode.branch [
+        | then-mode+else-some_float w ↦ rw w.if-some_float.false at w.some_float.ensures
+        | else-mode w ↦ absurd (not-both t w.if-mode.false)
+      ];
     }
