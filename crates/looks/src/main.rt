@@ -8,8 +8,11 @@ ghost use Rattle.rows.specs.Table.{Falling};
 ghost use Rattle.looks.specs.Counted.{Counted};
 
 use counting::{all_looks, cut_fits};
+use report::{print_refusal, read_full};
 use rows::{Graph, code_of, kind_in, output_in};
 use sheet::{Reading, read_sheet};
+use std::io;
+use std::io::Write;
 
 // The code of a logic node's kind.
 const LOGIC: u32 = 1;
@@ -24,20 +27,17 @@ fn mark(code: u32) -> u8 {
 
 // Marks the logic nodes.
 fn mark_logic(graph: &Graph, marks: &mut [u8; 256]) {
-    let mut u: u32 = 0;
-    while u < 256 {
+    for u in 0..256u32 {
         marks[u as usize] = mark(code_of(kind_in(graph, u)));
-        u += 1;
     }
 }
 
 // The number of leaves, or that it is more than k.
-fn print_leaves(count: u32, k: u32) {
+fn print_leaves<W: Write>(out: &mut W, count: u32, k: u32) -> io::Result<()> {
     if count <= k {
-        io::print_decimal(1, count as u64);
+        write!(out, "{count}")
     } else {
-        io::write_all(1, b"more than ");
-        io::print_decimal(1, k as u64);
+        write!(out, "more than {k}")
     }
 }
 
@@ -68,57 +68,56 @@ fn count_cone(graph: &Graph, marks: &[u8; 256], v: u32, k: u32) -> Counts
 }
 
 // The line of node v.
-fn show(graph: &Graph, marks: &[u8; 256], v: u32, k: u32)
+fn show<W: Write>(out: &mut W, graph: &Graph, marks: &[u8; 256], v: u32, k: u32) -> io::Result<()>
     requires falling { Falling graph.now }
     requires v_bound { v < 256 }
     requires k_bound { k < 8 }
 {
     let found = count_cone(graph, marks, v, k);
-    io::write_all(1, b"node ");
-    io::print_decimal(1, v as u64);
-    io::write_all(1, b": ");
-    print_leaves(found.leaves, k);
-    io::write_all(1, b" leaves; operands looked at: ");
-    io::print_decimal(1, found.before as u64);
-    io::write_all(1, b" before, ");
-    io::print_decimal(1, found.now as u64);
-    io::write_all(1, b" now\n");
+    let before = found.before;
+    let now = found.now;
+    write!(out, "node {v}: ")?;
+    print_leaves(out, found.leaves, k)?;
+    writeln!(
+        out,
+        " leaves; operands looked at: {before} before, {now} now"
+    )
 }
 
 // The lines of the logic nodes that are outputs.
-fn show_nodes(graph: &Graph, n: u32, k: u32)
+fn show_nodes<W: Write>(out: &mut W, graph: &Graph, n: u32, k: u32) -> io::Result<()>
     requires falling { Falling graph.now }
     requires n_bound { n ≤ 256 }
     requires k_bound { k < 8 }
 {
     let mut marks = [0u8; 256];
     mark_logic(graph, &mut marks);
-    let mut v: u32 = 0;
-    while v < n {
+    for v in 0..n {
         if marks[v as usize] == 1 {
             if output_in(graph, v) {
-                show(graph, &marks, v, k);
+                show(out, graph, &marks, v, k)?;
             }
         }
-        v += 1;
     }
+    Ok(())
 }
 
 // The lines of a sheet.
-fn show_sheet(bytes: &[u8]) {
+fn show_sheet<W: Write>(out: &mut W, bytes: &[u8]) -> io::Result<()> {
     let mut graph = [0u32; 4096];
     let mut differences = [0u32; 4096];
     let reading = read_sheet(bytes, &mut graph, &mut differences);
     match reading {
         Reading::Refused(why) => {
-            report::print_refusal(1, why);
+            print_refusal(out, why)?;
+            Ok(())
         }
-        Reading::Sheet(header) => show_nodes(&graph, header.nodes, header.leaves),
+        Reading::Sheet(header) => show_nodes(out, &graph, header.nodes, header.leaves),
     }
 }
 
-fn main() {
+fn main(rt: HostRuntime) -> io::Result<()> {
     let mut bytes = [0u8; 16384];
-    let n = io::read_full(0, &mut bytes);
-    show_sheet(&bytes[..n]);
+    let n = read_full(&mut rt.stdin(), &mut bytes)?;
+    show_sheet(&mut rt.stdout(), &bytes[..n])
 }

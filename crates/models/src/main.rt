@@ -3,67 +3,68 @@
 #![tactic(auto)]
 
 use out_bytes::Outcome;
+use report::{print_refusal, read_full};
+use std::io;
+use std::io::Write;
 
 const SEPARATOR: u8 = 28;
 
 // A space and a number.
-fn print_next(n: u8) {
-    io::write_all(1, b" ");
-    io::print_decimal(1, n as u64);
+fn print_next<W: Write>(out: &mut W, n: u8) -> io::Result<()> {
+    write!(out, " {n}")
 }
 
 // The first n numbers, each behind a space.
-fn print_first(sheet: &[u8], n: usize) {
-    let mut i: usize = 0;
-    while i < n {
+fn print_first<W: Write>(out: &mut W, sheet: &[u8], n: usize) -> io::Result<()> {
+    for i in 0..n {
         if i < sheet.len() {
-            print_next(sheet[i]);
+            print_next(out, sheet[i])?;
         }
-        i += 1;
     }
+    Ok(())
 }
 
 // Imports a text and prints what came of it.
-fn show(text: &[u8]) {
+fn show<W: Write>(out: &mut W, text: &[u8]) -> io::Result<()> {
     let mut sheet = [0u8; 256];
     let answer = importer::import_blif(text, 4, 8, 9, 1000, 500, &mut sheet);
     match answer {
         Outcome::Refused(why) => {
-            report::print_refusal(1, why);
+            print_refusal(out, why)?;
+            Ok(())
         }
         Outcome::Written(n) => {
-            io::write_all(1, b"sheet");
-            print_first(&sheet, n);
-            io::write_all(1, b"\n");
+            out.write_all(b"sheet")?;
+            print_first(out, &sheet, n)?;
+            out.write_all(b"\n")
         }
     }
 }
 
 // Shows the text from a position up to another.
-fn show_part(texts: &[u8], from: usize, to: usize) {
+fn show_part<W: Write>(out: &mut W, texts: &[u8], from: usize, to: usize) -> io::Result<()> {
     if to <= texts.len() {
         if from <= to {
-            show(&texts[from..to]);
+            return show(out, &texts[from..to]);
         }
     }
+    Ok(())
 }
 
 // Shows the texts one after the other.
-fn show_all(texts: &[u8]) {
-    let mut from: usize = 0;
-    let mut at: usize = 0;
-    while at < texts.len() {
+fn show_all<W: Write>(out: &mut W, texts: &[u8]) -> io::Result<()> {
+    let mut from = 0;
+    for at in 0..texts.len() {
         if texts[at] == SEPARATOR {
-            show_part(texts, from, at);
+            show_part(out, texts, from, at)?;
             from = at + 1;
         }
-        at += 1;
     }
-    show_part(texts, from, texts.len());
+    show_part(out, texts, from, texts.len())
 }
 
-fn main() {
+fn main(rt: HostRuntime) -> io::Result<()> {
     let mut texts = [0u8; 16384];
-    let n = io::read_full(0, &mut texts);
-    show_all(&texts[..n]);
+    let n = read_full(&mut rt.stdin(), &mut texts)?;
+    show_all(&mut rt.stdout(), &texts[..n])
 }

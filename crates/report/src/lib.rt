@@ -1,13 +1,20 @@
-// The listing of a sheet's plan, or the line of its refusal, on standard output.
+// The listing of a sheet's plan, or the line of its refusal, on a writer, and the reading of a whole input.
 #![tactic(auto)]
 
-ghost use Rattle.std.specs.Prelude.{◌≡◌};
+ghost use Rattle.std.specs.Prelude.{◌≡◌, ◌++◌, IfOk, OnOk, codes, decimal};
+ghost use Rattle.std.specs.Io.KnownBytes.{Appends};
 ghost use Rattle.maps.specs.Outcome.{outcome, outcome_number};
-ghost use Rattle.types.specs.Code.{number_of};
+ghost use Rattle.types.specs.Code.{number_of, place_of};
 
-use out_bytes::Outcome;
 use number::{Cursor, Number, number_at};
+use out_bytes::Outcome;
+use std::io;
+use std::io::Write;
 use types::Refusal;
+
+mod input;
+
+pub use input::read_full;
 
 // A number of the plan and where the next begins; past the end, 0 at the end.
 #[derive(Clone, Copy)]
@@ -28,91 +35,87 @@ fn next_item(plan: &[u8], c: Cursor) -> Item {
 }
 
 // A space and a number.
-fn print_next(n: u32) {
-    io::write_all(1, b" ");
-    io::print_decimal(1, n as u64);
+fn print_next<W: Write>(out: &mut W, n: u32) -> io::Result<()> {
+    write!(out, " {n}")
 }
 
 // The leaves, each behind a space; where the next number begins.
-fn print_leaves(plan: &[u8], c: Cursor, count: u32) -> Cursor {
+fn print_leaves<W: Write>(out: &mut W, plan: &[u8], c: Cursor, count: u32) -> io::Result<Cursor> {
     let mut at = c;
-    let mut j: u32 = 0;
-    while j < count {
+    for _ in 0..count {
         let leaf = next_item(plan, at);
-        print_next(leaf.value);
+        print_next(out, leaf.value)?;
         at = leaf.next;
-        j += 1;
     }
-    at
+    Ok(at)
 }
 
 // The line of node id: id, step, level, `used` or `idle`, leaves.
-fn print_node(plan: &[u8], c: Cursor, id: u32) -> Cursor {
+fn print_node<W: Write>(out: &mut W, plan: &[u8], c: Cursor, id: u32) -> io::Result<Cursor> {
     let step = next_item(plan, c);
     let level = next_item(plan, step.next);
     let mark = next_item(plan, level.next);
     let count = next_item(plan, mark.next);
-    io::print_decimal(1, id as u64);
-    print_next(step.value);
-    print_next(level.value);
+    write!(out, "{id}")?;
+    print_next(out, step.value)?;
+    print_next(out, level.value)?;
     if mark.value == 1 {
-        io::write_all(1, b" used");
+        out.write_all(b" used")?;
     } else {
-        io::write_all(1, b" idle");
+        out.write_all(b" idle")?;
     }
-    let end = print_leaves(plan, count.next, count.value);
-    io::write_all(1, b"\n");
-    end
+    let end = print_leaves(out, plan, count.next, count.value)?;
+    out.write_all(b"\n")?;
+    Ok(end)
 }
 
 // The listing: the latency, then the nodes until the plan ends.
-fn print_plan(plan: &[u8]) {
+fn print_plan<W: Write>(out: &mut W, plan: &[u8]) -> io::Result<()> {
     let latency = next_item(plan, Cursor { at: 0 });
-    io::write_all(1, b"latency");
-    print_next(latency.value);
-    io::write_all(1, b"\n");
+    out.write_all(b"latency")?;
+    print_next(out, latency.value)?;
+    out.write_all(b"\n")?;
     let mut at = latency.next;
-    let mut id: u32 = 0;
-    while id < 256 {
+    for id in 0..256u32 {
         if at.at >= plan.len() {
-            return;
+            return Ok(());
         }
-        at = print_node(plan, at, id);
-        id += 1;
+        at = print_node(out, plan, at, id)?;
     }
+    Ok(())
 }
 
 // The listing of the plan in the first n bytes.
-fn print_first(bytes: &[u8], n: usize) {
+fn print_first<W: Write>(out: &mut W, bytes: &[u8], n: usize) -> io::Result<()> {
     if n <= bytes.len() {
-        print_plan(&bytes[..n]);
+        return print_plan(out, &bytes[..n]);
     }
+    Ok(())
 }
 
-// Prints the line of a refusal on a descriptor: number, then place; the number.
-pub fn print_refusal(fd: i32, why: Refusal) -> u32
-    ensures { result ≡ number_of why }
+// Prints the line of a refusal: number, then place; the number.
+pub fn print_refusal<W: Write>(out: &mut W, why: Refusal) -> io::Result<u32>
+    ensures number { IfOk result (λ n. n ≡ number_of why) }
+    ensures line { OnOk result (Appends (W.contents out.old) (W.contents out.new)
+        (codes "refused " ++ decimal (number_of why) ++ codes " " ++ decimal (place_of why) ++ codes "\n")) }
 {
     let number = why.number();
-    io::write_all(fd, b"refused ");
-    io::print_decimal(fd, number as u64);
-    io::write_all(fd, b" ");
-    io::print_decimal(fd, why.place() as u64);
-    io::write_all(fd, b"\n");
-    number
+    let place = why.place();
+    writeln!(out, "refused {number} {place}")?;
+    Ok(number)
 }
 
 // Plans a sheet and prints what came of it, the listing or the line of the refusal; its number.
-pub fn report(sheet: &[u8]) -> u32
-    ensures { result ≡ outcome_number (outcome sheet.now 8192) }
+pub fn report<W: Write>(out: &mut W, sheet: &[u8]) -> io::Result<u32>
+    ensures { IfOk result (λ n. n ≡ outcome_number (outcome sheet.now 8192)) }
 {
     let mut buffer = [0u8; 8192];
     let answer = planner::plan(sheet, &mut buffer);
     match answer {
-        Outcome::Refused(why) => print_refusal(1, why),
+        Outcome::Refused(why) => print_refusal(out, why),
         Outcome::Written(n) => {
-            print_first(&buffer, n);
-            0
+            print_first(out, &buffer, n)?;
+            Ok(0)
         }
     }
 }
