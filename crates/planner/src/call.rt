@@ -13,9 +13,9 @@ ghost use Rattle.out_bytes.specs.Outcome.{Answered, number_answered, place_answe
 ghost use Rattle.planner.specs.Call.{Own, Made, Short, made_meant};
 
 use bound::{Levels, Steps};
-use out_bytes::{Answer, Outcome, answer_of, hand_over};
 use cover::cover;
 use level::{Cuts, lowest_cutless};
+use out_bytes::{Answer, Outcome, answer_of, hand_over};
 use rows::{Differences, Graph, Header};
 use sheet::{Reading, read_sheet};
 use timing::{Timing, latency, time_labels};

@@ -4,8 +4,8 @@ ghost use Rattle.out_bytes.specs.Outcome.{Answered};
 ghost use Rattle.blif.specs.Limits.{caller};
 ghost use Rattle.blif.specs.Import.{importing};
 
-use out_bytes::{Answer, answer_of};
 use importer::import_blif;
+use out_bytes::{Answer, answer_of};
 
 pub fn maps_import(
     text: &[u8],
