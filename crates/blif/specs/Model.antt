@@ -46,7 +46,7 @@ ended past latched M = faulty 9 past
 ended past last M = found M
 
 -- a line is refused on its ground, or else the lines after it decide
-abbrev pub judged : (ground place : ℕ) → (rest : Found) → Found
+abbrev pub judged : (refused place : ℕ) → (rest : Found) → Found
 judged zero place rest = rest
 judged (suc k) place rest = faulty (suc k) place
 

@@ -1,5 +1,4 @@
 -- `cone::cut_fits` meets its contract: at most k leaves are met and listed, or the walk has ended at leaf k + 1.
-use borrow.Author.Rules.{rules}
 use native.Mathlib.Omega.{arith}
 use Prim.Native.Nat.{ℕ, ◌+◌, ◌-◌, ◌<◌}
 use mathlib.Core.Path.{◌≡◌, refl, sym, subst}

@@ -1,7 +1,6 @@
 -- `cone::leaves` meets its contract. The loop's invariant: the list begins with the n leaves below i.
-use borrow.Author.Rules.{rules}
 use native.Mathlib.Omega.{arith}
-use Prim.Native.Nat.{◌+◌, ◌-◌, ◌≤◌, ◌<◌}
+use Prim.Native.Nat.{◌+◌, ◌-◌}
 use mathlib.Core.Path.{◌≡◌, refl, ap, ◌∙◌}
 use lib.ListN.{length, set, take, length-set, length-take}
 use Rattle.cone.specs.Part.{leaves_below}

@@ -1,5 +1,4 @@
 -- `cone::walk` meets its contract.
-use borrow.Author.Rules.{rules}
 use native.Mathlib.Omega.{arith}
 use Rattle.cone.specs.Walk.{marked}
 use Rattle.cone.specs.Looks.{looks}

@@ -5,7 +5,6 @@ use Rattle.maps.specs.Label.{Label}
 use Rattle.bound.specs.Lookup.{label_in}
 use Rattle.level.specs.Carry.{CodesBy}
 use Rattle.level.proofs.LevelCodes.{asked_by}
-use borrow.Author.Rules.{rules}
 use Rattle.cover.proofs.choose_cut.Goals as goal
 
 pub returns : goal.returns

@@ -1,11 +1,10 @@
 -- `cover::cover` meets its contract. The invariant: the cover from node v on stands.
-use Prim.Native.Nat.{ℕ, ◌+◌, ◌-◌, ◌≤◌}
+use Prim.Native.Nat.{ℕ, ◌+◌, ◌-◌}
 use mathlib.Core.Path.{◌≡◌, subst}
 use native.Mathlib.Omega.{arith}
 use lib.ListN.{length-replicate, get_or-replicate}
-use Rattle.maps.specs.Sheet.{Sheet, size}
+use Rattle.maps.specs.Sheet.{size}
 use Rattle.bound.specs.Lookup.{labels_in}
-use Rattle.cover.specs.Cover.{Rows}
 use Rattle.cover.specs.Covering.{Laid, CoverFrom}
 use Rattle.cover.proofs.CoverTurn.{cover-none, cover-done, rows_none, rows-fewer}
 use borrow.Author.Rules.{rules}

@@ -1,13 +1,8 @@
-use Prim.Native.Nat.{ℕ, ◌+◌, ◌-◌, ◌≤◌}
-use mathlib.Core.Path.{◌≡◌, subst}
-use native.Mathlib.Omega.{arith}
-use lib.ListN.{length-replicate, get_or-replicate}
+use Prim.Native.Nat.{◌-◌, ◌≤◌}
 use Rattle.maps.specs.Sheet.{Sheet, size}
 use Rattle.bound.specs.Lookup.{labels_in}
 use Rattle.cover.specs.Cover.{Rows}
 use Rattle.cover.specs.Covering.{Laid, CoverFrom}
-use Rattle.cover.proofs.CoverTurn.{cover-none, cover-done, rows_none, rows-fewer}
-use borrow.Author.Rules.{rules}
 use Rattle.cover.proofs.cover.Given as goal
 
 abbrev pub invariant-loop-v : goal.invariant-loop-v

@@ -1,12 +1,10 @@
 -- `cover::cover_node` meets its contract: one law for each kind.
 use mathlib.Core.Path.{sym, ap, ◌∙◌}
-use borrow.Author.Tests.{not-true, not-false}
 use Rattle.maps.specs.Sheet.{is_logic, is_box}
 use Rattle.types.specs.Code.{kind_meant}
 use Rattle.types.specs.declared.Kind as K
 use Rattle.cover.proofs.CoverMarks.{rows-marked, rows_written}
 use Rattle.cover.proofs.CoverTurn.{turn-idle, turn-input, turn-box, turn-logic, kind-logic}
-use borrow.Author.Rules.{rules}
 use Rattle.cover.proofs.cover_node.Goals as goal
 
 pub returns-then-not-is_used : goal.returns-then-not-is_used

@@ -7,7 +7,6 @@ use Rattle.types.specs.Code.{kind_meant}
 use Rattle.types.specs.declared.Kind as K
 use Rattle.rows.specs.Table.{kind_at}
 use Rattle.cover.proofs.CoverTurn.{test-output, test-box, test-mark}
-use borrow.Author.Rules.{rules}
 use Rattle.cover.proofs.is_used.Goals as goal
 
 pub returns-then-output_in : goal.returns-then-output_in

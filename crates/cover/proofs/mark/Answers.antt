@@ -1,6 +1,5 @@
 -- `cover::mark` meets its contract.
 use Rattle.cover.proofs.CoverMarks.{marked-own}
-use borrow.Author.Rules.{rules}
 use Rattle.cover.proofs.mark.Goals as goal
 
 pub returns : goal.returns

@@ -1,13 +1,9 @@
-use Prim.Native.Nat.{ℕ, ◌-◌, ◌≤◌, ◌<◌}
-use mathlib.Core.Path.{◌≡◌, subst}
+use Prim.Native.Nat.{◌-◌, ◌≤◌}
 use mathlib.Core.List.{map}
-use native.Mathlib.Omega.{arith}
-use borrow.Author.Rules.{rules}
 use Rattle.maps.specs.Lists.{below}
 use Rattle.maps.specs.Limits.{leaves_range}
-use Rattle.bound.specs.Lookup.{count_of, leaf_of}
+use Rattle.bound.specs.Lookup.{leaf_of}
 use Rattle.cover.specs.Covering.{MarkedAll}
-use Rattle.cover.proofs.CoverMarks.{over-get, marked-none, marked_more}
 use Rattle.cover.proofs.mark_leaves.Given as goal
 
 abbrev pub invariant-loop-j : goal.invariant-loop-j

@@ -1,11 +1,9 @@
 -- `cover::mark_operands` meets its contract. The invariant: the first j of them are marked.
-use Prim.Native.Nat.{ℕ, ◌-◌, ◌≤◌}
+use Prim.Native.Nat.{ℕ, ◌-◌}
 use mathlib.Core.Path.{◌≡◌, subst}
 use mathlib.Core.List.{map}
 use native.Mathlib.Omega.{arith}
-use borrow.Author.Rules.{rules}
 use Rattle.maps.specs.Lists.{below}
-use Rattle.maps.specs.Limits.{operands_most}
 use Rattle.rows.specs.Table.{count_in, operand_in}
 use Rattle.cover.specs.Covering.{MarkedAll}
 use Rattle.cover.proofs.CoverMarks.{marked-none, marked_more}

@@ -1,13 +1,9 @@
-use Prim.Native.Nat.{ℕ, ◌-◌, ◌≤◌}
-use mathlib.Core.Path.{◌≡◌, subst}
+use Prim.Native.Nat.{◌-◌, ◌≤◌}
 use mathlib.Core.List.{map}
-use native.Mathlib.Omega.{arith}
-use borrow.Author.Rules.{rules}
 use Rattle.maps.specs.Lists.{below}
 use Rattle.maps.specs.Limits.{operands_most}
-use Rattle.rows.specs.Table.{count_in, operand_in}
+use Rattle.rows.specs.Table.{operand_in}
 use Rattle.cover.specs.Covering.{MarkedAll}
-use Rattle.cover.proofs.CoverMarks.{marked-none, marked_more}
 use Rattle.cover.proofs.mark_operands.Given as goal
 
 abbrev pub invariant-loop-j : goal.invariant-loop-j

@@ -1,8 +1,7 @@
 -- `cover::sound_count` meets its contract. The invariant: the first j numbers are ids.
-use Prim.Native.Nat.{ℕ, ◌-◌, ◌≤◌, ◌<◌}
+use Prim.Native.Nat.{◌-◌}
 use mathlib.Core.Path.{refl}
 use native.Mathlib.Omega.{arith}
-use lib.ListN.{get_or}
 use borrow.Author.Count.{below_more}
 use Rattle.cover.proofs.CoverCut.{count_none}
 use borrow.Author.Rules.{rules}

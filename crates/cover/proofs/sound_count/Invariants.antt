@@ -1,10 +1,5 @@
 use Prim.Native.Nat.{ℕ, ◌-◌, ◌≤◌, ◌<◌}
-use mathlib.Core.Path.{refl}
-use native.Mathlib.Omega.{arith}
 use lib.ListN.{get_or}
-use borrow.Author.Count.{below_more}
-use Rattle.cover.proofs.CoverCut.{count_none}
-use borrow.Author.Rules.{rules}
 use Rattle.cover.proofs.sound_count.Given as goal
 
 abbrev pub invariant-loop-j : goal.invariant-loop-j

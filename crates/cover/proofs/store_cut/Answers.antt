@@ -4,7 +4,6 @@ use mathlib.Core.Path.{ap, ◌∙◌}
 use Prim.Native.Nat.{ℕ}
 use lib.ListN.{take}
 use Rattle.cover.proofs.CoverCut.{count-all, stored_row, stored-written}
-use borrow.Author.Rules.{rules}
 use Rattle.cover.proofs.store_cut.Goals as goal
 
 pub keep_cut-requires : goal.keep_cut-requires

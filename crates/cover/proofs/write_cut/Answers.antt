@@ -1,7 +1,6 @@
 -- `cover::write_cut` meets its contract.
 use mathlib.Core.Path.{◌∙◌}
 use Rattle.cover.proofs.CoverCut.{chosen-ids}
-use borrow.Author.Rules.{rules}
 use Rattle.cover.proofs.write_cut.Goals as goal
 
 pub returns : goal.returns

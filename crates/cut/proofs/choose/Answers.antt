@@ -6,7 +6,6 @@ use mathlib.Core.List.{List}
 use Rattle.cut.specs.Question.{Fewest, Best}
 use Rattle.flow.proofs.Failed.{marks-size}
 use Rattle.cut.proofs.Bridge.{fewest-units, best-marks}
-use borrow.Author.Rules.{rules}
 use Rattle.cut.proofs.choose.Goals as goal
 
 pub returns-then-f-k : goal.returns-then-f-k

@@ -1,12 +1,11 @@
 -- `collect` meets its contract: the first `n` numbers of `cut` are the leaves below `x`.
 use native.Mathlib.Omega.{arith}
-use Prim.Native.Nat.{ℕ, ◌+◌, ◌-◌, ◌≤◌}
+use Prim.Native.Nat.{ℕ, ◌+◌, ◌-◌}
 use mathlib.Core.Path.{◌≡◌, sym, ap, ◌∙◌}
 use mathlib.Core.List.{List, ◌++◌}
-use lib.ListN.{length, take}
+use lib.ListN.{length}
 use Rattle.flow.specs.Search.{leaf_mark, single, rising}
 use Rattle.cut.proofs.Listing.{rising_none, rising-turn, rising-longer, rising-short, rising-grow}
-use borrow.Author.Rules.{rules}
 use Rattle.cut.proofs.collect.Goals as goal
 
 pub loop-x-init : goal.loop-x-init

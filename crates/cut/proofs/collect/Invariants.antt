@@ -1,11 +1,7 @@
-use native.Mathlib.Omega.{arith}
-use Prim.Native.Nat.{ℕ, ◌+◌, ◌-◌, ◌≤◌}
-use mathlib.Core.Path.{◌≡◌, sym, ap, ◌∙◌}
-use mathlib.Core.List.{List, ◌++◌}
+use Prim.Native.Nat.{◌-◌, ◌≤◌}
+use mathlib.Core.Path.{◌≡◌}
 use lib.ListN.{length, take}
-use Rattle.flow.specs.Search.{leaf_mark, single, rising}
-use Rattle.cut.proofs.Listing.{rising_none, rising-turn, rising-longer, rising-short, rising-grow}
-use borrow.Author.Rules.{rules}
+use Rattle.flow.specs.Search.{leaf_mark, rising}
 use Rattle.cut.proofs.collect.Given as goal
 
 abbrev pub invariant-loop-x : goal.invariant-loop-x

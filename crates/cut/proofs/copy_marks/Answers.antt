@@ -1,9 +1,8 @@
 -- `copy_marks` meets its contract.
-use borrow.Author.Rules.{rules}
 use native.Mathlib.Omega.{arith}
-use Prim.Native.Nat.{ℕ, ◌-◌, ◌<◌}
-use mathlib.Core.Path.{◌≡◌, ◌∙◌}
-use lib.ListN.{length, length-set}
+use Prim.Native.Nat.{◌-◌}
+use mathlib.Core.Path.{◌∙◌}
+use lib.ListN.{length-set}
 use Rattle.rows.specs.Cells.{cell}
 use Rattle.rows.proofs.Cells.{filled_more, copied}
 use Rattle.cut.proofs.copy_marks.Goals as goal

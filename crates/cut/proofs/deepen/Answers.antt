@@ -1,10 +1,8 @@
 -- `deepen` meets its contract. The invariant: no leaf from `x` on can be inside.
 use native.Mathlib.Omega.{arith}
-use Prim.Native.Nat.{ℕ, ◌+◌, ◌-◌, ◌≤◌}
+use Prim.Native.Nat.{ℕ, ◌+◌, ◌-◌}
 use mathlib.Core.Path.{◌≡◌, subst}
-use Rattle.flow.specs.Search.{Settled}
 use Rattle.cut.proofs.Deepening.{Partly, partly-first, partly-turn, partly-last}
-use borrow.Author.Rules.{rules}
 use Rattle.cut.proofs.deepen.Goals as goal
 
 pub loop-x-init : goal.loop-x-init

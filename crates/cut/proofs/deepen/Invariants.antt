@@ -1,9 +1,6 @@
-use native.Mathlib.Omega.{arith}
-use Prim.Native.Nat.{ℕ, ◌+◌, ◌-◌, ◌≤◌}
-use mathlib.Core.Path.{◌≡◌, subst}
+use Prim.Native.Nat.{ℕ, ◌-◌, ◌≤◌}
 use Rattle.flow.specs.Search.{Settled}
-use Rattle.cut.proofs.Deepening.{Partly, partly-first, partly-turn, partly-last}
-use borrow.Author.Rules.{rules}
+use Rattle.cut.proofs.Deepening.{Partly}
 use Rattle.cut.proofs.deepen.Given as goal
 
 abbrev pub invariant-loop-x : goal.invariant-loop-x

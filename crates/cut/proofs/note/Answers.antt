@@ -1,7 +1,6 @@
 -- `note` meets its contract.
 use Rattle.flow.proofs.Marks.{mark-none, mark-inside, mark-yes}
 use Rattle.cut.proofs.Listing.{note-same, note-more, room}
-use borrow.Author.Rules.{rules}
 use Rattle.cut.proofs.note.Goals as goal
 
 pub returns-then-seen-m-eq0 : goal.returns-then-seen-m-eq0

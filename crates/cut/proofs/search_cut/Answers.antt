@@ -6,7 +6,6 @@ use mathlib.Core.List.{List}
 use Rattle.cut.specs.Question.{AllowedCut}
 use Rattle.flow.proofs.Failed.{marks-size}
 use Rattle.cut.proofs.Bridge.{marks-allowed, fewest-units}
-use borrow.Author.Rules.{rules}
 use Rattle.cut.proofs.search_cut.Goals as goal
 
 pub returns-then-f-k : goal.returns-then-f-k

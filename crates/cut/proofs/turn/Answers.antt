@@ -1,15 +1,10 @@
 -- `turn` meets its contract.
-use native.Mathlib.Omega.{arith}
-use Prim.Native.Nat.{ℕ}
-use mathlib.Core.Path.{refl, sym, subst, ◌∙◌}
-use mathlib.Core.Logic.{inl}
-use mathlib.Core.List.{List}
-use Rattle.flow.specs.Search.{Flow, within}
+use mathlib.Core.Path.{refl}
+use Rattle.flow.specs.Search.{within}
 use Rattle.rows.proofs.Cells as Cells
 use Rattle.flow.proofs.Laws as Laws
 use Rattle.flow.proofs.Marks.{mark-none, mark-inside}
 use Rattle.cut.proofs.Listing.{turn-held, turn-grown}
-use borrow.Author.Rules.{rules}
 use Rattle.cut.proofs.turn.Goals as goal
 
 pub returns-then-seen-m-eq0 : goal.returns-then-seen-m-eq0

@@ -1,12 +1,10 @@
 -- `definitions::append_reads` meets its contract: the operands so far are the ids of the words so far.
-use Prim.Native.Nat.{ℕ, ◌+◌, ◌-◌, ◌≤◌, ◌<◌}
+use Prim.Native.Nat.{ℕ, ◌+◌, ◌-◌, ◌<◌}
 use mathlib.Core.Path.{◌≡◌, refl, sym, ap, ◌∙◌}
-use mathlib.Core.List.{[], ◌∷◌, ◌++◌, map, append-nil}
-use borrow.Author.Rules.{rules}
+use mathlib.Core.List.{[], ◌∷◌, ◌++◌, append-nil}
 use native.Mathlib.Omega.{arith}
-use lib.ListN.{length, take, drop}
+use lib.ListN.{length, take}
 use Rattle.blif.specs.Scan.{name_at, words_at}
-use Rattle.blif.specs.Import.{id_of}
 use Rattle.blif.proofs.Walking.{word-here, words-after}
 use Rattle.names.specs.Table.{names_in}
 use Rattle.names.proofs.Tables.{length-names}

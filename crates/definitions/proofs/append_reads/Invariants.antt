@@ -1,15 +1,10 @@
-use Prim.Native.Nat.{ℕ, ◌+◌, ◌-◌, ◌≤◌, ◌<◌}
-use mathlib.Core.Path.{◌≡◌, refl, sym, ap, ◌∙◌}
-use mathlib.Core.List.{[], ◌∷◌, ◌++◌, map, append-nil}
-use borrow.Author.Rules.{rules}
-use native.Mathlib.Omega.{arith}
+use Prim.Native.Nat.{◌+◌, ◌-◌, ◌≤◌}
+use mathlib.Core.Path.{◌≡◌}
+use mathlib.Core.List.{◌++◌, map}
 use lib.ListN.{length, take, drop}
-use Rattle.blif.specs.Scan.{name_at, words_at}
+use Rattle.blif.specs.Scan.{words_at}
 use Rattle.blif.specs.Import.{id_of}
-use Rattle.blif.proofs.Walking.{word-here, words-after}
 use Rattle.names.specs.Table.{names_in}
-use Rattle.names.proofs.Tables.{length-names}
-use Rattle.definitions.proofs.Keeping.{one-id, id-small}
 use Rattle.definitions.proofs.append_reads.Given as goal
 
 abbrev pub invariant-loop-i : goal.invariant-loop-i

@@ -1,16 +1,11 @@
-use Prim.Native.Nat.{ℕ, ◌+◌, ◌-◌, ◌≤◌, ◌<◌}
-use mathlib.Core.Path.{◌≡◌, refl, sym, ap, ◌∙◌}
+use Prim.Native.Nat.{◌+◌, ◌-◌, ◌≤◌}
+use mathlib.Core.Path.{◌≡◌}
 use mathlib.Core.Bool.{true}
-use mathlib.Core.List.{List, [], ◌++◌, append-nil}
-use native.Mathlib.Omega.{arith}
-use lib.ListN.{length, get_or, take, drop, length-drop}
-use lib.Seq.{length-take-le, get_or-take, get_or-drop, drop-drop}
-use Rattle.blif.specs.Words.{Word}
+use mathlib.Core.List.{List, ◌++◌}
+use lib.ListN.{take, drop}
 use Rattle.blif.specs.Scan.{words_at}
 use Rattle.blif.specs.Names.{Definition, inputs_of, names_of, fresh}
 use Rattle.definitions.specs.Kept.{Kept}
-use Rattle.definitions.proofs.Keeping.{input-new, input-more}
-use Rattle.definitions.proofs.Lawful.{short-at}
 use Rattle.definitions.proofs.keep_inputs.Given as goal
 
 abbrev pub invariant-loop-i : goal.invariant-loop-i

@@ -1,6 +1,5 @@
 -- `definitions::row_of` meets its contract, kind by kind.
 use mathlib.Core.Path.{refl}
-use borrow.Author.Rules.{rules}
 use Rattle.definitions.proofs.row_of.Goals as goal
 
 pub returns-in-Input : goal.returns-in-Input

@@ -1,7 +1,6 @@
 -- `put_difference` meets its contract: u, v and the code of w.
 use Prim.Native.Nat.{◌-◌}
 use native.Mathlib.Omega.{arith}
-use borrow.Author.Rules.{rules}
 use mathlib.Core.List.{[], ◌∷◌}
 use Rattle.maps.specs.Limits.{id_range, weight_range}
 use Rattle.maps.specs.Form.{among}
@@ -9,7 +8,7 @@ use Rattle.maps.specs.Write.{entry, code_of_weight}
 use Rattle.ranges.proofs.RangeLaws.{ids-right}
 use Rattle.records.specs.Rows.{difference_row, signed}
 use Rattle.maps.proofs.WrittenSize.{id-bytes}
-use Rattle.fields.proofs.WroteLaws.{begun, more, stopped, last_one, wrote-wide, room-left, room-less}
+use Rattle.fields.proofs.WroteLaws.{begun, more, stopped, last_one, room-left, room-less}
 use Rattle.entries.proofs.put_difference.Goals as goal
 
 pub put_in-from_put-requires : goal.put_in-from_put-requires

@@ -1,7 +1,6 @@
 -- `put_head` meets its contract: one number after the other, each in the range that the table gives for the kind.
 use Prim.Native.Nat.{ℕ}
 use native.Mathlib.Omega.{arith}
-use borrow.Author.Rules.{rules}
 use mathlib.Core.List.{List}
 use lib.ListN.{drop}
 use Rattle.maps.specs.Write.{Entry, head_entries}
@@ -9,7 +8,7 @@ use Rattle.ranges.proofs.RangeLaws.{delays-right, latencies-right, clocks-right,
 use Rattle.maps.proofs.Spellable.{ranges-fit}
 use Rattle.maps.proofs.WrittenSize.{ranges-bytes}
 use Rattle.records.specs.declared.NodeRow.{NodeRow}
-use Rattle.fields.proofs.WroteLaws.{begun, more, stopped, last_one, wrote-wide, room-left}
+use Rattle.fields.proofs.WroteLaws.{begun, more, stopped, last_one, room-left}
 use Rattle.entries.proofs.put_head.Goals as goal
 
 -- the numbers after the first k

@@ -1,12 +1,11 @@
 -- `put_header` meets its contract: one number after the other.
 use native.Mathlib.Omega.{arith}
-use borrow.Author.Rules.{rules}
 use mathlib.Core.List.{[], ◌∷◌}
 use Rattle.maps.specs.Limits.{top_range, horizon_range, size_range, count_range}
 use Rattle.maps.specs.Number.{bytes_for}
 use Rattle.maps.specs.Form.{among}
 use Rattle.maps.specs.Write.{entry}
-use Rattle.fields.proofs.WroteLaws.{begun, more, stopped, last_one, wrote-wide, numbered, room-left}
+use Rattle.fields.proofs.WroteLaws.{begun, more, stopped, last_one, numbered, room-left}
 use Rattle.entries.proofs.put_header.Goals as goal
 
 pub returns-in_default : goal.returns-in_default

@@ -1,6 +1,5 @@
 -- `put_box` meets its contract.
 use mathlib.Core.Path.{◌∙◌}
-use borrow.Author.Rules.{rules}
 use Rattle.ranges.specs.Ranges.{span_meant}
 use Rattle.fields.proofs.WroteLaws.{wrote-no-box, wrote-box}
 use Rattle.fields.proofs.put_box.Goals as goal

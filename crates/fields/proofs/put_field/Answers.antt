@@ -1,5 +1,4 @@
 -- `put_field` meets its contract.
-use borrow.Author.Rules.{rules}
 use Rattle.fields.proofs.Spelled.{field-small}
 use Rattle.fields.proofs.put_field.Goals as goal
 

@@ -1,6 +1,5 @@
 -- `put_in` meets its contract.
 use Prim.Native.Nat.{◌≤◌}
-use borrow.Author.Rules.{rules}
 use native.Mathlib.Omega.{arith}
 use Rattle.maps.proofs.WrittenSize.{within-bytes}
 use Rattle.fields.proofs.WroteLaws.{wrote-low, wrote-high, wrote-among}

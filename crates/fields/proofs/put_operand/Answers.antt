@@ -1,6 +1,5 @@
 -- `put_operand` meets its contract.
 use Prim.Native.Nat.{◌<◌}
-use borrow.Author.Rules.{rules}
 use native.Mathlib.Omega.{arith}
 use Rattle.maps.specs.Limits.{size_range}
 use Rattle.maps.proofs.WrittenSize.{id-bytes}

@@ -1,17 +1,13 @@
 -- `grounds::all_short` meets its contract: the first i words from the start are short, and the others stand from the position on.
 use Prim.Native.Nat.{ℕ, ◌-◌, ◌≤◌, ◌<◌}
 use mathlib.Core.Path.{◌≡◌, refl, sym, ap, ◌∙◌}
-use mathlib.Core.Bool.{Bool, true}
+use mathlib.Core.Bool.{true}
 use mathlib.Core.List.{[]}
-use borrow.Author.Rules.{rules}
 use borrow.Author.Tests.{le-leb, lt-leb}
 use native.Mathlib.Omega.{arith}
-use lib.Dec.{leb}
-use lib.ListN.{length, get_or, take, drop}
+use lib.ListN.{length, get_or, take}
 use Rattle.maps.specs.Lists.{all}
-use Rattle.blif.specs.Words.{Word}
 use Rattle.blif.specs.Scan.{words_at}
-use Rattle.blif.specs.Limits.{name_most}
 use Rattle.blif.proofs.Walking.{word-here, words-after}
 use Rattle.grounds.proofs.KeepLaws.{all_more, one-fails}
 use Rattle.grounds.proofs.all_short.Invariants.{short}

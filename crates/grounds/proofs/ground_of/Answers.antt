@@ -1,7 +1,5 @@
 -- `grounds::ground_of` meets its contract: the tests in the order of the grounds.
 use mathlib.Core.Path.{sym, ◌∙◌}
-use borrow.Author.Rules.{rules}
-use borrow.Author.Tests.{not-true, not-false}
 use Rattle.blif.specs.Scan.{words_at}
 use Rattle.subset.specs.Meant.{statement_meant}
 use Rattle.names.specs.Table.{names_in}

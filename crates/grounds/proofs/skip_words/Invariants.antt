@@ -1,10 +1,7 @@
-use Prim.Native.Nat.{ℕ, ◌-◌, ◌≤◌}
-use mathlib.Core.Path.{◌≡◌, refl, ap, ◌∙◌}
-use borrow.Author.Rules.{rules}
-use native.Mathlib.Omega.{arith}
+use Prim.Native.Nat.{◌-◌, ◌≤◌}
+use mathlib.Core.Path.{◌≡◌}
 use lib.ListN.{drop}
 use Rattle.blif.specs.Scan.{words_at}
-use Rattle.blif.proofs.Walking.{words-after}
 use Rattle.grounds.proofs.skip_words.Given as goal
 
 abbrev pub invariant-loop-i : goal.invariant-loop-i

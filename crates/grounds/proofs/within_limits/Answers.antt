@@ -1,7 +1,5 @@
 -- `grounds::within_limits` meets its contract: each test is that of a limit.
 use mathlib.Core.Path.{sym, ◌∙◌}
-use borrow.Author.Rules.{rules}
-use borrow.Author.Tests.{not-true, not-false}
 use native.Mathlib.Omega.{arith}
 use Rattle.blif.specs.Scan.{words_at}
 use Rattle.subset.specs.Meant.{statement_meant}

@@ -1,11 +1,8 @@
 -- `hold::all_held` meets its contract. The invariant: the first v nodes are marked.
-use borrow.Author.Rules.{rules}
 use borrow.Author.Count.{below_none, below_more}
 use native.Mathlib.Omega.{arith}
-use Prim.Native.Nat.{ℕ, ◌-◌, ◌≤◌, ◌<◌}
-use mathlib.Core.Path.{◌≡◌}
+use Prim.Native.Nat.{◌-◌}
 use mathlib.Core.Bool.{true}
-use Rattle.hold.specs.Mark.{held_in}
 use Rattle.hold.proofs.HoldMarks.{held-yes, held-no}
 use Rattle.hold.proofs.all_held.Goals as goal
 

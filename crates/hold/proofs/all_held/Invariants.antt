@@ -1,11 +1,7 @@
-use borrow.Author.Rules.{rules}
-use borrow.Author.Count.{below_none, below_more}
-use native.Mathlib.Omega.{arith}
 use Prim.Native.Nat.{ℕ, ◌-◌, ◌≤◌, ◌<◌}
 use mathlib.Core.Path.{◌≡◌}
 use mathlib.Core.Bool.{true}
 use Rattle.hold.specs.Mark.{held_in}
-use Rattle.hold.proofs.HoldMarks.{held-yes, held-no}
 use Rattle.hold.proofs.all_held.Given as goal
 
 abbrev pub invariant-loop-v : goal.invariant-loop-v

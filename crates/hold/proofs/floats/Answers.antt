@@ -1,10 +1,7 @@
 -- `hold::floats` meets its contract. The invariant: the nodes of a step below the shift are marked, and only what is held is. The measure: how many nodes
 -- are not marked.
-use borrow.Author.Rules.{rules}
-use borrow.Author.Tests.{not-true, not-false}
 use native.Mathlib.Omega.{arith}
-use Rattle.rows.specs.Cells.{zeros}
-use Rattle.hold.proofs.HoldMarks.{Marks, marks-first, marks-again, marks-exact}
+use Rattle.hold.proofs.HoldMarks.{marks-first, marks-again, marks-exact}
 use Rattle.hold.proofs.floats.Goals.{else-loop-held-test, then-loop-held-test+then-not-hold_down}
 use Rattle.hold.proofs.floats.Goals as goal
 

@@ -1,9 +1,5 @@
-use borrow.Author.Rules.{rules}
-use borrow.Author.Tests.{not-true, not-false}
-use native.Mathlib.Omega.{arith}
-use mathlib.Core.Logic.{⊎_elim}
 use Rattle.rows.specs.Cells.{zeros}
-use Rattle.hold.proofs.HoldMarks.{Marks, marks-first, marks-again, marks-exact}
+use Rattle.hold.proofs.HoldMarks.{Marks}
 use Rattle.hold.proofs.floats.Given as goal
 
 abbrev pub invariant-loop-held : goal.invariant-loop-held

@@ -1,13 +1,12 @@
 -- `hold::held_by_difference` meets its contract. The invariant: no difference into v from e on holds it, and e is 0 or one more than the next
 -- of them.
-use Prim.Native.Nat.{ℕ, ◌+◌, ◌-◌, ◌≤◌, ◌<◌}
+use Prim.Native.Nat.{ℕ, ◌-◌, ◌≤◌, ◌<◌}
 use mathlib.Core.Path.{◌≡◌, refl, sym, ap, ◌∙◌}
 use mathlib.Core.List.{List}
 use mathlib.Core.Bool.{Bool, true, false}
 use native.Mathlib.Omega.{arith}
 use lib.Dec.{ltb}
 use borrow.Author.Tests.{ltb-true, ltb-false}
-use borrow.Author.Rules.{rules}
 use Rattle.rows.specs.Table.{to_in}
 use Rattle.bound.specs.Lookup.{last_into}
 use Rattle.bound.proofs.Asking.{last-le, last-hit, last_none}

@@ -1,15 +1,7 @@
-use Prim.Native.Nat.{ℕ, ◌+◌, ◌-◌, ◌≤◌, ◌<◌}
-use mathlib.Core.Path.{◌≡◌, refl, sym, ap, ◌∙◌}
-use mathlib.Core.List.{List}
-use mathlib.Core.Bool.{Bool, true, false}
-use native.Mathlib.Omega.{arith}
-use lib.Dec.{ltb}
-use borrow.Author.Tests.{ltb-true, ltb-false}
-use borrow.Author.Rules.{rules}
+use Prim.Native.Nat.{ℕ, ◌+◌, ◌-◌, ◌≤◌}
+use mathlib.Core.Path.{◌≡◌}
 use Rattle.rows.specs.Table.{to_in}
-use Rattle.bound.specs.Lookup.{last_into}
-use Rattle.bound.proofs.Asking.{last-le, last-hit, last_none}
-use Rattle.hold.specs.Mark.{Ties, Tied}
+use Rattle.hold.specs.Mark.{Tied}
 use Rattle.hold.proofs.held_by_difference.Given as goal
 
 abbrev pub invariant-loop-e : goal.invariant-loop-e

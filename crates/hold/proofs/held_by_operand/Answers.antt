@@ -1,11 +1,8 @@
 -- `hold::held_by_operand` meets its contract. The invariant: none of the first j operands holds v.
-use borrow.Author.Rules.{rules}
-use borrow.Author.Count.{below_none, below_more}
+use borrow.Author.Count.{below_none}
 use native.Mathlib.Omega.{arith}
-use Prim.Native.Nat.{ℕ, ◌-◌, ◌≤◌, ◌<◌}
-use mathlib.Core.Logic.{⊎_elim}
-use Rattle.hold.specs.Mark.{Near}
-use Rattle.hold.proofs.HoldMarks.{held-yes, held-no, near_by, not-close, not-marked}
+use Prim.Native.Nat.{◌-◌}
+use Rattle.hold.proofs.HoldMarks.{held-yes, near_by}
 use Rattle.hold.proofs.held_by_operand.Goals as goal
 
 pub loop-j-init : goal.loop-j-init

@@ -1,10 +1,5 @@
-use borrow.Author.Rules.{rules}
-use borrow.Author.Count.{below_none, below_more}
-use native.Mathlib.Omega.{arith}
 use Prim.Native.Nat.{ℕ, ◌-◌, ◌≤◌, ◌<◌}
-use mathlib.Core.Logic.{⊎_elim}
 use Rattle.hold.specs.Mark.{Near}
-use Rattle.hold.proofs.HoldMarks.{held-yes, held-no, near_by, not-close, not-marked}
 use Rattle.hold.proofs.held_by_operand.Given as goal
 
 abbrev pub invariant-loop-j : goal.invariant-loop-j

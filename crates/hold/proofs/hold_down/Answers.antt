@@ -1,9 +1,7 @@
 -- `hold::hold_down` meets its contract. The invariant: the nodes from v on have had their turn.
-use borrow.Author.Rules.{rules}
 use native.Mathlib.Omega.{arith}
-use Prim.Native.Nat.{◌-◌, ◌≤◌}
+use Prim.Native.Nat.{◌-◌}
 use mathlib.Core.Path.{◌∙◌}
-use Rattle.hold.specs.Mark.{Swept}
 use Rattle.hold.proofs.HoldMarks.{swept_none, swept-wide, swept-yes, swept-no}
 use Rattle.hold.proofs.hold_down.Goals as goal
 

@@ -1,12 +1,7 @@
 -- `hold::hold_early` meets its contract. The invariant: of the first v nodes those of a step below the shift are marked, and no other.
-use borrow.Author.Rules.{rules}
 use native.Mathlib.Omega.{arith}
-use Prim.Native.Nat.{ℕ, ◌+◌, ◌-◌, ◌≤◌}
-use mathlib.Core.Path.{sym, subst}
-use mathlib.Core.List.{List}
-use mathlib.Core.Logic.{⊎_elim}
-use Rattle.hold.specs.Mark.{HeldEarly}
-use Rattle.hold.proofs.HoldMarks.{early-none, early-mark, early-skip}
+use Prim.Native.Nat.{◌-◌}
+use Rattle.hold.proofs.HoldMarks.{early-none}
 use Rattle.hold.proofs.hold_early.Goals as goal
 
 pub loop-v-init : goal.loop-v-init

@@ -1,6 +1,4 @@
 -- `hold::hold_node` meets its contract.
-use borrow.Author.Rules.{rules}
-use borrow.Author.Tests.{not-true, not-false}
 use mathlib.Core.Path.{refl}
 use Rattle.hold.proofs.HoldMarks.{held-yes, held-no}
 use Rattle.hold.proofs.hold_node.Goals as goal

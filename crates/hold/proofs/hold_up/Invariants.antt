@@ -1,10 +1,5 @@
-use borrow.Author.Rules.{rules}
-use native.Mathlib.Omega.{arith}
 use Prim.Native.Nat.{◌-◌, ◌≤◌}
-use mathlib.Core.Path.{◌∙◌}
-use mathlib.Core.Logic.{⊎_elim}
 use Rattle.hold.specs.Mark.{Swept}
-use Rattle.hold.proofs.HoldMarks.{swept_none, swept-wide, swept-yes, swept-no}
 use Rattle.hold.proofs.hold_up.Given as goal
 
 abbrev pub invariant-loop-v : goal.invariant-loop-v

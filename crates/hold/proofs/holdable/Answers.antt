@@ -3,7 +3,6 @@ use Prim.Native.Nat.{ℕ, ◌<◌}
 use mathlib.Core.Bool.{Bool, true, false}
 use mathlib.Core.List.{List}
 use mathlib.Core.Logic.{inl, inr, ⊎_elim}
-use borrow.Author.Rules.{rules}
 use Rattle.rows.specs.Cells.{Ends}
 use Rattle.rows.specs.Table.{count_in}
 use Rattle.hold.specs.Mark.{Near, ByDifference, Holdable}

@@ -4,7 +4,6 @@ use mathlib.Core.Path.{◌≡◌, subst, ap, ◌∙◌}
 use mathlib.Core.Bool.{true, false}
 use native.Mathlib.Omega.{arith}
 use lib.ListN.{get_or}
-use borrow.Author.Rules.{rules}
 use Rattle.hold.specs.Mark.{held_in}
 use Rattle.hold.proofs.HoldMarks.{held-yes, held-no, not-both}
 use Rattle.hold.proofs.ties.Goals as goal

@@ -1,7 +1,6 @@
 -- `names::id_of` meets its contract: the search has come to e, and no name from there on is the one that is sought.
 use Prim.Native.Nat.{ℕ, ◌-◌, ◌%◌, ◌<◌}
 use mathlib.Core.Path.{sym, subst, ◌∙◌}
-use borrow.Author.Rules.{rules}
 use native.Mathlib.Omega.{arith}
 use lib.ListN.{get_or}
 use Rattle.blif.specs.Scan.{name_at}

@@ -1,12 +1,6 @@
-use Prim.Native.Nat.{ℕ, ◌-◌, ◌%◌, ◌<◌}
-use mathlib.Core.Path.{sym, subst, ◌∙◌}
-use mathlib.Core.Logic.{⊎_elim}
-use borrow.Author.Rules.{rules}
-use native.Mathlib.Omega.{arith}
-use lib.ListN.{get_or}
+use Prim.Native.Nat.{◌-◌}
 use Rattle.blif.specs.Scan.{name_at}
-use Rattle.names.specs.Table.{buckets, head_place}
-use Rattle.names.proofs.Searching.{Searched, search-begins, search-falls, search-goes, search-differs, search-finds, search-ends}
+use Rattle.names.proofs.Searching.{Searched}
 use Rattle.names.proofs.id_of.Given as goal
 
 abbrev pub invariant-loop-e : goal.invariant-loop-e

@@ -1,14 +1,12 @@
 -- `names::is_name` meets its contract: what is left of both names compares as the names do.
 use Prim.Native.Nat.{ℕ, ◌-◌, ◌≤◌, ◌<◌}
-use mathlib.Core.Path.{◌≡◌, sym, ap, ◌∙◌}
-use borrow.Author.Rules.{rules}
+use mathlib.Core.Path.{sym, ap, ◌∙◌}
 use native.Mathlib.Omega.{arith}
 use lib.Dec.{leb}
-use lib.ListN.{length, drop, drop_of_length-le}
+use lib.ListN.{length, drop_of_length-le}
 use Rattle.maps.specs.Lists.{equal}
-use Rattle.blif.specs.Scan.{name_at}
 use Rattle.scan.specs.Steps.{left}
-use Rattle.scan.proofs.NameBytes.{left-none, left-some, left-next, ahead, ahead-falls}
+use Rattle.scan.proofs.NameBytes.{left-none, left-some, left-next, ahead-falls}
 use Rattle.scan.proofs.Comparing.{right-ended, heads-differ, heads-same, word-ended}
 use Rattle.names.specs.Table.{size_in, name_in}
 use Rattle.names.proofs.Rows.{length-name, name-from}

@@ -1,17 +1,10 @@
-use Prim.Native.Nat.{ℕ, ◌-◌, ◌≤◌, ◌<◌}
-use mathlib.Core.Path.{◌≡◌, ap}
-use mathlib.Core.List.{List}
-use borrow.Author.Rules.{rules}
-use native.Mathlib.Omega.{arith}
+use Prim.Native.Nat.{◌-◌, ◌≤◌}
 use lib.ListN.{length}
-use Rattle.maps.specs.Number.{byte_at}
-use Rattle.blif.specs.Words.{Word}
 use Rattle.blif.specs.Scan.{name_at}
 use Rattle.blif.specs.Limits.{name_most}
 use Rattle.scan.specs.Steps.{left}
-use Rattle.scan.proofs.NameBytes.{left-none, left-some, left-next, ahead, ahead-falls}
-use Rattle.names.specs.Table.{row_place, byte_place}
-use Rattle.names.proofs.Rows.{Begun, begun-none, begun-length, begun_more, begun_all}
+use Rattle.scan.proofs.NameBytes.{ahead}
+use Rattle.names.proofs.Rows.{Begun}
 use Rattle.names.proofs.put_name.Given as goal
 
 abbrev pub invariant-loop-p : goal.invariant-loop-p

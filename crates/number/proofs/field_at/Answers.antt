@@ -1,5 +1,4 @@
 -- `number::field_at` meets its contract: the range is the table's.
-use borrow.Author.Rules.{rules}
 use Rattle.number.proofs.field_at.Goals as goal
 
 pub returns : goal.returns

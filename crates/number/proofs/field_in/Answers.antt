@@ -1,5 +1,4 @@
 -- `number::field_in` meets its contract: the number that was read and the tests say which case of `inRange` holds.
-use borrow.Author.Rules.{rules}
 use borrow.Author.Tests.{lt-leb, le-leb}
 use Rattle.number.proofs.field_in.Goals as goal
 

@@ -1,7 +1,6 @@
 -- `number::number_at` meets its contract: at each `return` the tests on the way there say which case of the definition holds.
 use Prim.Native.Nat.{◌+◌}
 use mathlib.Core.Path.{◌∙◌}
-use borrow.Author.Rules.{rules}
 use borrow.Author.Tests.{le-ltb, lt-ltb, ne_eqb}
 use native.Mathlib.Omega.{arith}
 use Rattle.maps.specs.Number.{groups, number_up_to}

@@ -1,5 +1,4 @@
 -- `number::operand_at` meets its contract: the number that was read and the test say which case of `operand` holds.
-use borrow.Author.Rules.{rules}
 use borrow.Author.Tests.{le-ltb, lt-ltb}
 use Rattle.number.proofs.operand_at.Goals as goal
 

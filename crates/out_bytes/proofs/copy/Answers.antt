@@ -1,10 +1,9 @@
 -- `copy` meets its contract. The invariant: the first i bytes are copied.
-use Prim.Native.Nat.{◌-◌, ◌≤◌}
+use Prim.Native.Nat.{◌-◌}
 use native.Mathlib.Omega.{arith}
 use mathlib.Core.Path.{◌≡◌, refl, ap, ◌∙◌}
 use mathlib.Core.List.{◌++◌}
-use lib.ListN.{length, take, drop, length-set}
-use borrow.Author.Rules.{rules}
+use lib.ListN.{take, drop, length-set}
 use Rattle.out_bytes.proofs.HandingOver.{copied_more}
 use Rattle.out_bytes.proofs.copy.Goals as goal
 

@@ -1,5 +1,4 @@
 -- `hand_over` meets its contract.
-use borrow.Author.Rules.{rules}
 use Rattle.out_bytes.proofs.HandingOver.{no_room, written}
 use Rattle.out_bytes.proofs.hand_over.Goals as goal
 

@@ -1,8 +1,7 @@
 -- `put` meets its contract: a byte after another, each a group of the number, until the rest is below 128.
-use Prim.Native.Nat.{ℕ, ◌+◌, ◌-◌, ◌*◌, ◌/◌, ◌%◌, ◌<◌, ◌≤◌}
+use Prim.Native.Nat.{ℕ, ◌+◌, ◌-◌, ◌/◌, ◌%◌, ◌<◌, ◌≤◌}
 use mathlib.Core.List.{List}
 use lib.ListN.{length, set}
-use borrow.Author.Rules.{rules}
 use native.Mathlib.Omega.{arith}
 use Rattle.maps.specs.Number.{width, values, bytes_for}
 use Rattle.out_bytes.proofs.Putting.{Begun, begun-none, begun-room, begun_more, begun-last}

@@ -1,8 +1,6 @@
 -- `outputs::mark_line` meets its contract.
 use mathlib.Core.Path.{refl, sym, subst, ◌∙◌}
 use mathlib.Core.List.{List}
-use borrow.Author.Rules.{rules}
-use borrow.Author.Tests.{not-true, not-false}
 use Rattle.blif.specs.Words.{Word}
 use Rattle.blif.specs.Scan.{words_at}
 use Rattle.names.specs.Table.{names_in}

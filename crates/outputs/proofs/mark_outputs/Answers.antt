@@ -1,16 +1,11 @@
 -- `outputs::mark_outputs` meets its contract: what marking the outputs of the lines from the position on comes to is what marking all comes to.
-use Prim.Native.Nat.{ℕ, ◌-◌}
-use mathlib.Core.Path.{◌≡◌, refl, ◌∙◌}
-use mathlib.Core.List.{List}
+use Prim.Native.Nat.{◌-◌}
+use mathlib.Core.Path.{refl, ◌∙◌}
 use native.Mathlib.Omega.{arith}
-use lib.ListN.{length}
-use borrow.Author.Rules.{rules}
-use borrow.Author.Tests.{not-true, not-false}
 use Rattle.names.specs.Table.{names_in}
 use Rattle.names.proofs.Tables.{length-names}
-use Rattle.outputs.specs.declared.Marked.{Marked}
 use Rattle.outputs.specs.declared.Marked.TheVariants.{All, Undefined}
-use Rattle.outputs.proofs.Marking.{ListMarked, outputs_from, outputs-end, outputs-marked, outputs-stop, model-marked}
+use Rattle.outputs.proofs.Marking.{outputs-end, outputs-marked, outputs-stop, model-marked}
 use Rattle.outputs.proofs.mark_outputs.Goals as goal
 
 pub loop-at-init : goal.loop-at-init

@@ -1,15 +1,10 @@
 use Prim.Native.Nat.{ℕ, ◌-◌}
-use mathlib.Core.Path.{◌≡◌, refl, ◌∙◌}
+use mathlib.Core.Path.{◌≡◌}
 use mathlib.Core.List.{List}
-use native.Mathlib.Omega.{arith}
 use lib.ListN.{length}
-use borrow.Author.Rules.{rules}
-use borrow.Author.Tests.{not-true, not-false}
 use Rattle.names.specs.Table.{names_in}
-use Rattle.names.proofs.Tables.{length-names}
 use Rattle.outputs.specs.declared.Marked.{Marked}
-use Rattle.outputs.specs.declared.Marked.TheVariants.{All, Undefined}
-use Rattle.outputs.proofs.Marking.{ListMarked, outputs_from, outputs-end, outputs-marked, outputs-stop, model-marked}
+use Rattle.outputs.proofs.Marking.{ListMarked, outputs_from}
 use Rattle.outputs.proofs.mark_outputs.Given as goal
 
 abbrev pub invariant-loop-at : goal.invariant-loop-at

@@ -1,19 +1,15 @@
 -- `outputs::mark_words` meets its contract: what marking the words from the position on comes to is what marking them from the start comes to.
-use Prim.Native.Nat.{ℕ}
-use mathlib.Core.Path.{◌≡◌, refl, sym, ap, ◌∙◌}
-use mathlib.Core.Bool.{Bool, true, false}
-use mathlib.Core.List.{List, []}
+use mathlib.Core.Path.{refl, sym, ap, ◌∙◌}
+use mathlib.Core.Bool.{true, false}
+use mathlib.Core.List.{[]}
 use native.Mathlib.Omega.{arith}
 use lib.ListN.{length, length-set}
-use borrow.Author.Rules.{rules}
-use Rattle.records.specs.Rows.{mark_place}
 use Rattle.blif.specs.Words.{Word}
 use Rattle.blif.specs.Scan.{name_at, words_at}
 use Rattle.blif.proofs.Ordering.{once-none, once_more}
 use Rattle.blif.proofs.Walking.{words-none, words-some}
 use Rattle.names.specs.Table.{names_in}
 use Rattle.names.proofs.Tables.{length-names}
-use Rattle.outputs.specs.Marks.{WordsMarked}
 use Rattle.outputs.proofs.Marking.{words-end, word-marked, word-missing, words-past}
 use Rattle.outputs.proofs.mark_words.Goals as goal
 

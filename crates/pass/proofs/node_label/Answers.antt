@@ -4,7 +4,6 @@ use native.Mathlib.Omega.{arith}
 use Rattle.types.specs.Code.{kind_meant}
 use Rattle.bound.proofs.Safety.{node_in, graph-falls, soon-all, bounding}
 use Rattle.pass.proofs.TurnNode.{kept-beside, kind-is, placed, based-level, settles-base, latest-room, whole-window, settles-latest}
-use borrow.Author.Rules.{rules}
 use Rattle.pass.proofs.node_label.Goals as goal
 
 pub base_label-base-requires : goal.base_label-base-requires

@@ -1,14 +1,11 @@
 -- `pass` meets its contract. The loop's invariant: the nodes below v are settled in turn.
-use borrow.Author.Rules.{rules}
 use native.Mathlib.Omega.{arith}
-use Prim.Native.Nat.{ℕ, ◌+◌, ◌-◌, ◌≤◌}
+use Prim.Native.Nat.{ℕ, ◌+◌, ◌-◌}
 use mathlib.Core.Path.{◌≡◌, subst, ◌∙◌}
-use Rattle.maps.specs.Sheet.{Sheet}
-use Rattle.relax.specs.Settle.{Pass, Passing, begin}
+use Rattle.relax.specs.Settle.{Passing, begin}
 use Rattle.relax.proofs.Closed.{well-closed}
 use Rattle.relax.proofs.Loop.{passing-pass}
 use Rattle.bound.specs.Lookup.{label_in}
-use Rattle.bound.specs.Going.{Going}
 use Rattle.bound.proofs.Safety.{node_in, few-differences, summed-all}
 use Rattle.pass.proofs.Turns.{turn_on}
 use Rattle.pass.proofs.pass.Goals as goal

@@ -1,16 +1,8 @@
-use borrow.Author.Rules.{rules}
-use borrow.Author.Tests.{not-true, not-false}
-use native.Mathlib.Omega.{arith}
-use Prim.Native.Nat.{ℕ, ◌+◌, ◌-◌, ◌≤◌}
-use mathlib.Core.Path.{◌≡◌, subst, ◌∙◌}
+use Prim.Native.Nat.{ℕ, ◌-◌, ◌≤◌}
 use Rattle.maps.specs.Sheet.{Sheet}
-use Rattle.relax.specs.Settle.{Pass, Passing, begin}
-use Rattle.relax.proofs.Closed.{well-closed}
-use Rattle.relax.proofs.Loop.{passing-pass}
+use Rattle.relax.specs.Settle.{Pass, Passing}
 use Rattle.bound.specs.Lookup.{label_in}
 use Rattle.bound.specs.Going.{Going}
-use Rattle.bound.proofs.Safety.{node_in, few-differences, summed-all}
-use Rattle.pass.proofs.Turns.{turn_on}
 use Rattle.pass.proofs.pass.Given as goal
 
 abbrev pub invariant-loop-v : goal.invariant-loop-v

@@ -2,7 +2,6 @@
 use Rattle.types.specs.Code.{label_of}
 use Rattle.bound.proofs.Safety.{node_in}
 use Rattle.pass.proofs.Turns.{turn-ends}
-use borrow.Author.Rules.{rules}
 use Rattle.pass.proofs.settle.Goals as goal
 
 pub place_label-requires : goal.place_label-requires

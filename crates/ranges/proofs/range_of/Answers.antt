@@ -1,5 +1,4 @@
 -- `ranges::range_of` meets its contract: each field's arm has its range.
-use borrow.Author.Rules.{rules}
 use Rattle.ranges.proofs.range_of.Goals as goal
 
 pub returns-in-Leaves : goal.returns-in-Leaves

@@ -1,5 +1,4 @@
 -- `number::ranges_of` meets its contract: each row is the definition's.
-use borrow.Author.Rules.{rules}
 use Rattle.ranges.proofs.RangeLaws.{box-row}
 use Rattle.ranges.proofs.ranges_of.Goals as goal
 

@@ -1,6 +1,5 @@
 -- `code_of` meets its contract.
 use mathlib.Core.Path.{sym}
-use borrow.Author.Rules.{rules}
 use Rattle.records.proofs.RowLaws.{code-plus, code-minus}
 use Rattle.records.proofs.code_of.Goals as goal
 

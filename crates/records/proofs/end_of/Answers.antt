@@ -1,7 +1,4 @@
 -- `end_of` meets its contract.
-use mathlib.Core.Path.{◌≡◌, ap}
-use native.Mathlib.Omega.{arith}
-use borrow.Author.Rules.{rules}
 use Rattle.records.proofs.RowLaws.{end-capped, end-own}
 use Rattle.records.proofs.end_of.Goals as goal
 

@@ -1,7 +1,6 @@
 -- `is_box` meets its contract.
 use mathlib.Core.Path.{sym}
 use native.Mathlib.Omega.{arith}
-use borrow.Author.Rules.{rules}
 use Rattle.records.proofs.WindowLaws.{box-past, box-own}
 use Rattle.records.proofs.is_box.Goals as goal
 

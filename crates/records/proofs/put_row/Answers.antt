@@ -3,7 +3,6 @@ use Prim.Native.Nat.{◌+◌}
 use mathlib.Core.Path.{◌≡◌, ap, ◌∙◌}
 use native.Mathlib.Omega.{arith}
 use lib.ListN.{take}
-use borrow.Author.Rules.{rules}
 use Rattle.records.specs.Rows.{node_place}
 use Rattle.records.proofs.RowLaws.{six-more}
 use Rattle.records.proofs.put_row.Goals as goal

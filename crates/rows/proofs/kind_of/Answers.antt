@@ -1,5 +1,4 @@
 -- `sheet::kind_of` meets its contract.
-use borrow.Author.Rules.{rules}
 use Prim.Native.Nat.{ℕ, zero, suc}
 use mathlib.Core.Path.{◌≡◌, refl}
 use Rattle.maps.specs.Sheet.{box}

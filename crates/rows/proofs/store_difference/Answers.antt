@@ -2,7 +2,6 @@
 use native.Mathlib.Omega.{arith}
 use lib.ListN.{length-set}
 use Rattle.rows.proofs.Stores.{store-four}
-use borrow.Author.Rules.{rules}
 use Rattle.rows.proofs.store_difference.Goals as goal
 
 pub bounds-table-base-2 : goal.bounds-table-base-2

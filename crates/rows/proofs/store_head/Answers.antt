@@ -2,7 +2,6 @@
 use native.Mathlib.Omega.{arith}
 use lib.ListN.{length-set}
 use Rattle.rows.proofs.Stores.{store-six}
-use borrow.Author.Rules.{rules}
 use Rattle.rows.proofs.store_head.Goals as goal
 
 pub bounds-graph-base-2 : goal.bounds-graph-base-2

@@ -1,7 +1,6 @@
 -- `rows::store_operand` meets its contract: one store.
 use mathlib.Core.Path.{refl}
 use Rattle.rows.specs.Table.{store_from}
-use borrow.Author.Rules.{rules}
 use Rattle.rows.proofs.store_operand.Goals as goal
 
 pub returns : goal.returns

@@ -2,7 +2,6 @@
 use native.Mathlib.Omega.{arith}
 use lib.ListN.{length-set}
 use Rattle.rows.proofs.Stores.{store_two}
-use borrow.Author.Rules.{rules}
 use Rattle.rows.proofs.store_window.Goals as goal
 
 pub bounds-graph-base-2 : goal.bounds-graph-base-2

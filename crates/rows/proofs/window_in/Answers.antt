@@ -1,7 +1,6 @@
 -- `rows::window_in` meets its contract.
 use mathlib.Core.Path.{refl}
 use Rattle.rows.proofs.StoredWindows.{close-none, close-some}
-use borrow.Author.Rules.{rules}
 use Rattle.rows.proofs.window_in.Goals as goal
 
 pub returns-then-to-eq0 : goal.returns-then-to-eq0

@@ -1,6 +1,5 @@
 -- `subset::bare_row` meets its contract.
 use mathlib.Core.Path.{sym, ◌∙◌}
-use borrow.Author.Rules.{rules}
 use Rattle.blif.specs.Scan.{name_at, words_at}
 use Rattle.subset.proofs.LineLaws.{bare-yes, bare-no, bare-other}
 use Rattle.subset.proofs.bare_row.Goals as goal

@@ -1,6 +1,5 @@
 -- `subset::first_line` meets its contract.
 use mathlib.Core.Path.{sym, ◌∙◌}
-use borrow.Author.Rules.{rules}
 use Rattle.blif.specs.Scan.{name_at, words_at}
 use Rattle.subset.specs.Meant.{statement_meant}
 use Rattle.subset.proofs.LineLaws.{first-model, first-other}

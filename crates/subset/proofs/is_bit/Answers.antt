@@ -1,6 +1,5 @@
 -- `subset::is_bit` meets its contract.
 use mathlib.Core.Path.{sym, ◌∙◌}
-use borrow.Author.Rules.{rules}
 use Rattle.scan.proofs.Stepping.{or_yes, or_no}
 use Rattle.subset.proofs.is_bit.Goals as goal
 

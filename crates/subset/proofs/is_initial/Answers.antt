@@ -1,6 +1,5 @@
 -- `subset::is_initial` meets its contract.
 use mathlib.Core.Path.{sym, ◌∙◌}
-use borrow.Author.Rules.{rules}
 use Rattle.scan.proofs.Stepping.{or_yes, or_no}
 use Rattle.subset.proofs.is_initial.Goals as goal
 

@@ -1,6 +1,5 @@
 -- `subset::is_outside` meets its contract.
 use mathlib.Core.Path.{refl, subst}
-use borrow.Author.Rules.{rules}
 use native.Mathlib.Omega.{arith}
 use Rattle.subset.specs.declared.Statement as Code
 use Rattle.subset.specs.Meant.{Shaped}

@@ -1,6 +1,5 @@
 -- `subset::latch_line` meets its contract.
 use mathlib.Core.Path.{sym, ap, ◌∙◌}
-use borrow.Author.Rules.{rules}
 use native.Mathlib.Omega.{arith}
 use Rattle.blif.specs.Scan.{words_at}
 use Rattle.blif.specs.Subset.{initial}

@@ -1,6 +1,5 @@
 -- `subset::parts_of` meets its contract.
 use mathlib.Core.Path.{refl, sym, subst, ◌∙◌}
-use borrow.Author.Rules.{rules}
 use native.Mathlib.Omega.{arith}
 use Rattle.blif.specs.Subset.{row, end, outside}
 use Rattle.subset.specs.declared.Statement as Code

@@ -1,8 +1,6 @@
 -- `subset::row_line` meets its contract.
 use mathlib.Core.Path.{sym, ap, ◌∙◌}
 use mathlib.Core.List.{◌∷◌}
-use borrow.Author.Rules.{rules}
-use borrow.Author.Tests.{not-true, not-false}
 use native.Mathlib.Omega.{arith}
 use Rattle.blif.specs.Scan.{name_at, words_at}
 use Rattle.blif.specs.Subset.{bit, row_line}

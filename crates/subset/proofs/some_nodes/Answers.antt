@@ -1,6 +1,5 @@
 -- `subset::some_nodes` meets its contract.
 use mathlib.Core.Path.{refl}
-use borrow.Author.Rules.{rules}
 use Rattle.subset.proofs.LineLaws.{names-nodes}
 use Rattle.subset.proofs.some_nodes.Goals as goal
 

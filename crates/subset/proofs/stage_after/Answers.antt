@@ -1,6 +1,5 @@
 -- `subset::stage_after` meets its contract.
 use mathlib.Core.Path.{refl, sym, subst}
-use borrow.Author.Rules.{rules}
 use native.Mathlib.Omega.{arith}
 use Rattle.subset.specs.declared.Statement as Code
 use Rattle.subset.specs.Meant.{Shaped}

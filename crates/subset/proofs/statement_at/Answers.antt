@@ -1,5 +1,4 @@
 -- `subset::statement_at` meets its contract.
-use borrow.Author.Rules.{rules}
 use Rattle.blif.specs.Scan.{name_at, words_at}
 use Rattle.subset.specs.Meant.{statement_meant}
 use Rattle.subset.proofs.LineLaws.{cover-line, latched-line, last_line}

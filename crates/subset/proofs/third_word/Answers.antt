@@ -1,5 +1,4 @@
 -- `subset::third_word` meets its contract.
-use borrow.Author.Rules.{rules}
 use Rattle.subset.proofs.WordLaws.{third-place}
 use Rattle.subset.proofs.third_word.Goals as goal
 

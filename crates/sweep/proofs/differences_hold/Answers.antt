@@ -1,9 +1,7 @@
 -- `differences_hold` meets its contract. The loop's invariant: of the differences below i no heeded one fails.
-use borrow.Author.Rules.{rules}
 use borrow.Author.Count.{below_none, below_more}
 use native.Mathlib.Omega.{arith}
-use Prim.Native.Nat.{◌-◌, ◌≤◌}
-use Rattle.sweep.specs.Sweep.{AllHold}
+use Prim.Native.Nat.{◌-◌}
 use Rattle.sweep.proofs.differences_hold.Goals as goal
 
 pub loop-i-init : goal.loop-i-init

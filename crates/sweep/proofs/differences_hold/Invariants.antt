@@ -1,6 +1,3 @@
-use borrow.Author.Rules.{rules}
-use borrow.Author.Count.{below_none, below_more}
-use native.Mathlib.Omega.{arith}
 use Prim.Native.Nat.{◌-◌, ◌≤◌}
 use Rattle.sweep.specs.Sweep.{AllHold}
 use Rattle.sweep.proofs.differences_hold.Given as goal

@@ -1,7 +1,6 @@
 -- `fails_below` meets its contract.
 use native.Mathlib.Omega.{arith}
 use Rattle.sweep.proofs.Failing.{fails-below}
-use borrow.Author.Rules.{rules}
 use Rattle.sweep.proofs.fails_below.Goals as goal
 
 pub returns-then-d-v : goal.returns-then-d-v

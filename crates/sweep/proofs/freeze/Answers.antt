@@ -1,12 +1,8 @@
 -- `freeze` meets its contract. The loop's invariant: the first v nodes are done.
-use borrow.Author.Rules.{rules}
 use native.Mathlib.Omega.{arith}
-use Prim.Native.Nat.{ℕ, ◌+◌, ◌-◌, ◌≤◌}
-use mathlib.Core.Path.{refl, sym, subst}
-use mathlib.Core.List.{List}
-use mathlib.Core.Logic.{⊎_elim}
-use Rattle.sweep.specs.Sweep.{Frozen}
-use Rattle.sweep.proofs.Freezing.{frozen-none, frozen-moved, frozen-still}
+use Prim.Native.Nat.{◌-◌}
+use mathlib.Core.Path.{refl}
+use Rattle.sweep.proofs.Freezing.{frozen-none}
 use Rattle.sweep.proofs.freeze.Goals as goal
 
 pub loop-v-init : goal.loop-v-init

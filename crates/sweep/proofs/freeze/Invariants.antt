@@ -1,11 +1,5 @@
-use borrow.Author.Rules.{rules}
-use native.Mathlib.Omega.{arith}
-use Prim.Native.Nat.{ℕ, ◌+◌, ◌-◌, ◌≤◌}
-use mathlib.Core.Path.{refl, sym, subst}
-use mathlib.Core.List.{List}
-use mathlib.Core.Logic.{⊎_elim}
+use Prim.Native.Nat.{◌-◌, ◌≤◌}
 use Rattle.sweep.specs.Sweep.{Frozen}
-use Rattle.sweep.proofs.Freezing.{frozen-none, frozen-moved, frozen-still}
 use Rattle.sweep.proofs.freeze.Given as goal
 
 abbrev pub invariant-loop-v : goal.invariant-loop-v

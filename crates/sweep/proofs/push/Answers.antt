@@ -7,7 +7,6 @@ use Rattle.types.specs.Code.{label_of}
 use Rattle.bound.specs.Bound.{Greatest, Into, push_of}
 use Rattle.bound.proofs.Safety.{node_in, few-differences, summed-all}
 use Rattle.sweep.proofs.Pushing.{push-none, push-placed}
-use borrow.Author.Rules.{rules}
 use Rattle.sweep.proofs.push.Goals as goal
 
 pub after_differences-asked-requires : goal.after_differences-asked-requires

@@ -1,9 +1,7 @@
 -- `some_fails_below` meets its contract. The loop's invariant: none of the differences below i is one that fails below v.
-use borrow.Author.Rules.{rules}
 use borrow.Author.Count.{below_none, below_more}
 use native.Mathlib.Omega.{arith}
-use Prim.Native.Nat.{ℕ, ◌-◌, ◌≤◌, ◌<◌}
-use Rattle.sweep.specs.Sweep.{FailsBelow}
+use Prim.Native.Nat.{◌-◌}
 use Rattle.sweep.proofs.some_fails_below.Goals as goal
 
 pub loop-i-init : goal.loop-i-init

@@ -1,16 +1,9 @@
-use borrow.Author.Rules.{rules}
-use borrow.Author.Tests.{not-true, not-false}
-use native.Mathlib.Omega.{arith}
 use Prim.Native.Nat.{ℕ, ◌-◌, ◌≤◌}
-use mathlib.Core.Path.{sym, subst}
 use Rattle.maps.specs.Sheet.{Sheet}
 use Rattle.relax.specs.Sweep.{Sweeping}
-use Rattle.relax.proofs.Closed.{well-closed}
-use Rattle.relax.proofs.Sweeps.{sweep-none}
 use Rattle.bound.specs.Lookup.{label_in, Heeded}
 use Rattle.bound.specs.Going.{Timed}
 use Rattle.sweep.specs.Sweep.{Sweepable}
-use Rattle.sweep.proofs.Pushing.{swept-sweepable, sweep-turn}
 use Rattle.sweep.proofs.sweep.Given as goal
 
 abbrev pub invariant-loop-v : goal.invariant-loop-v

@@ -1,7 +1,6 @@
 -- `thaw` meets its contract.
 use mathlib.Core.Path.{refl}
 use mathlib.Core.Logic.{inl, inr}
-use borrow.Author.Rules.{rules}
 use Rattle.sweep.proofs.thaw.Goals as goal
 
 pub returns-then-differences_hold : goal.returns-then-differences_hold

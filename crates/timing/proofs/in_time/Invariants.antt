@@ -1,11 +1,6 @@
-use borrow.Author.Rules.{rules}
-use borrow.Author.Count.{below_none, below_more}
-use native.Mathlib.Omega.{arith}
 use Prim.Native.Nat.{ℕ, ◌+◌, ◌-◌, ◌≤◌, ◌<◌}
-use mathlib.Core.Path.{subst}
 use lib.ListN.{get_or}
 use Rattle.rows.specs.Table.{latency_in}
-use Rattle.timing.proofs.Ready.{all-in-time, one-late}
 use Rattle.timing.proofs.in_time.Given as goal
 
 abbrev pub invariant-loop-v : goal.invariant-loop-v

@@ -1,6 +1,5 @@
 -- `timing::latency` meets its contract. The loop's invariant: `m` is the greatest ready step of the outputs below u.
-use borrow.Author.Rules.{rules}
-use Prim.Native.Nat.{ℕ, ◌-◌, ◌≤◌, max}
+use Prim.Native.Nat.{ℕ, ◌-◌, max}
 use mathlib.Core.Path.{◌≡◌, sym, ap, ◌∙◌}
 use native.Mathlib.Omega.{arith}
 use Rattle.maps.specs.Lists.{below, greatest}

@@ -1,10 +1,7 @@
-use borrow.Author.Rules.{rules}
-use Prim.Native.Nat.{ℕ, ◌-◌, ◌≤◌, max}
-use mathlib.Core.Path.{◌≡◌, sym, ap, ◌∙◌}
-use native.Mathlib.Omega.{arith}
+use Prim.Native.Nat.{◌-◌, ◌≤◌}
+use mathlib.Core.Path.{◌≡◌}
 use Rattle.maps.specs.Lists.{below, greatest}
 use Rattle.timing.specs.Timing.{output_step}
-use Rattle.timing.proofs.Ready.{greatest-more, latency-is-greatest}
 use Rattle.timing.proofs.latency.Given as goal
 
 abbrev pub invariant-loop-u : goal.invariant-loop-u

@@ -1,6 +1,5 @@
 -- `timing::search_limits` meets its contract.
 use mathlib.Core.Path.{refl}
-use borrow.Author.Rules.{rules}
 use Rattle.timing.proofs.search_limits.Goals as goal
 
 pub returns-then-limits-eq0 : goal.returns-then-limits-eq0

@@ -1,7 +1,6 @@
 -- `timing::time_labels` meets its contract.
 use mathlib.Core.Path.{subst}
 use native.Mathlib.Omega.{arith}
-use borrow.Author.Rules.{rules}
 use Rattle.rows.specs.declared.Header as R
 use Rattle.bound.proofs.Safety.{few-nodes, no-entries, some-entries}
 use Rattle.timing.specs.Timing.{is_within, is-past}

@@ -1,5 +1,4 @@
 -- `window_read::count_at` meets its contract: the range is that of the nodes.
-use borrow.Author.Rules.{rules}
 use Rattle.ranges.proofs.RangeLaws.{windows-right}
 use Rattle.window_read.proofs.count_at.Goals as goal
 

@@ -1,5 +1,4 @@
 -- `window_read::from_at` meets its contract: the range is that of the period.
-use borrow.Author.Rules.{rules}
 use Rattle.ranges.proofs.RangeLaws.{from-right}
 use Rattle.window_read.proofs.from_at.Goals as goal
 

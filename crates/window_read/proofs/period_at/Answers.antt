@@ -1,5 +1,4 @@
 -- `window_read::period_at` meets its contract: the range is the field's.
-use borrow.Author.Rules.{rules}
 use Rattle.window_read.proofs.period_at.Goals as goal
 
 pub returns : goal.returns

@@ -1,5 +1,4 @@
 -- `window_read::to_at` meets its contract: the range is that of the period, from the number after `from` on.
-use borrow.Author.Rules.{rules}
 use Rattle.ranges.proofs.RangeLaws.{ends-right, to-right}
 use Rattle.window_read.proofs.to_at.Goals as goal
 

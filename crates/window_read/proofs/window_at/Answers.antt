@@ -1,7 +1,6 @@
 -- `window_read::window_at` meets its contract: one number after the other, as the definition reads them.
 use mathlib.Core.Path.{sym, ap, ◌∙◌}
 use native.Mathlib.Omega.{arith}
-use borrow.Author.Rules.{rules}
 use Rattle.maps.specs.Limits.{from_range}
 use Rattle.maps.specs.Form.{among}
 use Rattle.maps.specs.WellFormed.{Within}

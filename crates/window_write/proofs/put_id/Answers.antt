@@ -2,7 +2,6 @@
 use Prim.Native.Nat.{◌-◌}
 use mathlib.Core.Path.{sym}
 use native.Mathlib.Omega.{arith}
-use borrow.Author.Rules.{rules}
 use Rattle.maps.proofs.WrittenSize.{id-bytes}
 use Rattle.ranges.proofs.RangeLaws.{ids-right, boxes-right}
 use Rattle.records.specs.Rows.{box_at}

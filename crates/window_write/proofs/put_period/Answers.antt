@@ -1,6 +1,5 @@
 -- `put_period` meets its contract: the period, then the count.
 use native.Mathlib.Omega.{arith}
-use borrow.Author.Rules.{rules}
 use mathlib.Core.List.{[], ◌∷◌}
 use Rattle.maps.specs.Limits.{windows_range, size_range}
 use Rattle.maps.specs.Form.{among}

@@ -1,15 +1,13 @@
 -- `put_times` meets its contract: from, then to.
 use native.Mathlib.Omega.{arith}
-use borrow.Author.Rules.{rules}
 use mathlib.Core.List.{[], ◌∷◌}
 use Prim.Native.Nat.{◌-◌}
 use Rattle.maps.specs.Limits.{period_range, from_range, to_range}
 use Rattle.maps.specs.Form.{among}
 use Rattle.maps.specs.Write.{entry}
 use Rattle.maps.proofs.WrittenSize.{within-bytes}
-use Rattle.ranges.proofs.RangeLaws.{Ends, from-right, ends-right, to-right}
-use Rattle.fields.specs.Wrote.{Wrote}
-use Rattle.fields.proofs.WroteLaws.{begun, stopped, last_one, wrote-wide, room-left, room-less}
+use Rattle.ranges.proofs.RangeLaws.{from-right, ends-right, to-right}
+use Rattle.fields.proofs.WroteLaws.{begun, stopped, last_one, room-left, room-less}
 use Rattle.window_write.proofs.Within.{within}
 use Rattle.window_write.proofs.put_times.Goals as goal
 

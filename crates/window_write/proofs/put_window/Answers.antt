@@ -1,12 +1,11 @@
 -- `put_window` meets its contract: the id, then from and to.
 use native.Mathlib.Omega.{arith}
 use Prim.Native.Nat.{◌-◌}
-use borrow.Author.Rules.{rules}
 use lib.ListN.{drop}
 use Rattle.maps.specs.Write.{window_numbers}
 use Rattle.maps.proofs.WrittenSize.{id-bytes}
 use Rattle.records.specs.Rows.{window_in, box_at}
-use Rattle.fields.proofs.WroteLaws.{begun, stopped, last_one, wrote-wide, room-left, room-less}
+use Rattle.fields.proofs.WroteLaws.{begun, stopped, last_one, room-left, room-less}
 use Rattle.window_write.proofs.put_window.Goals as goal
 
 pub put_id-id_put-requires : goal.put_id-id_put-requires

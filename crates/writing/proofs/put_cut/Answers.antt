@@ -1,20 +1,14 @@
 -- `writing::put_cut` meets its contract. The loop's invariant: the first j leaves are written.
-use Prim.Native.Nat.{suc, ◌-◌, ◌*◌, ◌≤◌, ◌<◌}
-use mathlib.Core.Path.{◌≡◌}
-use mathlib.Core.List.{map}
+use Prim.Native.Nat.{suc, ◌-◌, ◌<◌}
 use native.Mathlib.Omega.{arith}
 use native.Mathlib.Nat.{suc-mul, mul-le-mul_right}
-use borrow.Author.Rules.{rules}
-use Rattle.maps.specs.Lists.{concat}
-use Rattle.maps.specs.Number.{encoded}
 use Rattle.maps.specs.Limits.{leaves_range}
 use Rattle.maps.specs.Sizes.{id_bytes_most}
 use Rattle.maps.proofs.WrittenSize.{id-bytes}
 use Rattle.bound.specs.Lookup.{count_of, leaf_of}
 use Rattle.cover.proofs.CoverMarks.{over-get}
-use Rattle.out_bytes.specs.Put.{Put}
 use Rattle.out_bytes.proofs.Putting.{put-none, put-within}
-use Rattle.writing.proofs.Putting.{equal-bytes, leaves_to, put-leaf, put-leaves}
+use Rattle.writing.proofs.Putting.{equal-bytes, put-leaf, put-leaves}
 use Rattle.writing.proofs.put_cut.Goals as goal
 
 pub put-to-requires : goal.put-to-requires

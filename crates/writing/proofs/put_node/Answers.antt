@@ -8,7 +8,6 @@ use Rattle.maps.specs.Limits.{top_range}
 use Rattle.maps.specs.Sizes.{step_bytes_most, label_bytes_most}
 use Rattle.maps.proofs.WrittenSize.{within-bytes}
 use Rattle.out_bytes.proofs.Putting.{put_then}
-use borrow.Author.Rules.{rules}
 use Rattle.writing.proofs.Putting.{put-most, equal-bytes}
 use Rattle.writing.proofs.put_node.Goals as goal
 

@@ -1,5 +1,4 @@
 -- `writing::put_row` meets its contract.
-use borrow.Author.Rules.{rules}
 use native.Mathlib.Omega.{arith}
 use mathlib.Core.List.{append_assoc}
 use Rattle.out_bytes.proofs.Putting.{put_then}

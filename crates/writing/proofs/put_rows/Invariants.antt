@@ -1,15 +1,9 @@
-use borrow.Author.Rules.{rules}
-use native.Mathlib.Omega.{arith}
-use native.Mathlib.Nat.{suc-mul, mul-le-mul_right}
-use Prim.Native.Nat.{suc, ◌-◌, ◌*◌, ◌≤◌}
+use Prim.Native.Nat.{◌-◌, ◌*◌, ◌≤◌}
 use mathlib.Core.List.{map}
 use Rattle.maps.specs.Lists.{below, concat}
 use Rattle.writing.specs.Bytes.{flat_row}
-use Rattle.maps.specs.Limits.{size_range}
 use Rattle.maps.specs.Sizes.{row_bytes_most}
 use Rattle.out_bytes.specs.Put.{Put}
-use Rattle.out_bytes.proofs.Putting.{put-none, put-within}
-use Rattle.writing.proofs.Putting.{put_next, put_all}
 use Rattle.writing.proofs.put_rows.Given as goal
 
 abbrev pub invariant-loop-v : goal.invariant-loop-v

@@ -6,7 +6,6 @@ use Rattle.types.specs.Code.{label_of}
 use Rattle.types.proofs.LabelLaws.{ready-now}
 use Rattle.rows.specs.Table.{clock_in}
 use Rattle.bound.proofs.Arriving.{arrival-is}
-use borrow.Author.Rules.{rules}
 use Rattle.bound.proofs.arrive.arrival.Goals as goal
 
 pub returns-then-lat-eq0 : goal.returns-then-lat-eq0

@@ -1,12 +1,10 @@
 -- `arrive::latest_arrival` meets its contract. The invariant: `latest` is the latest over the first j operands.
-use Prim.Native.Nat.{ℕ, ◌-◌, ◌≤◌}
-use mathlib.Core.Path.{◌≡◌, subst}
+use Prim.Native.Nat.{ℕ}
+use mathlib.Core.Path.{subst}
 use native.Mathlib.Omega.{arith}
 use Rattle.types.specs.Code.{label_of}
-use Rattle.rows.specs.Table.{count_in}
 use Rattle.bound.specs.Bound.{Latest}
 use Rattle.bound.proofs.Arriving.{latest-none, latest-more}
-use borrow.Author.Rules.{rules}
 use Rattle.bound.proofs.arrive.latest_arrival.Goals as goal
 
 pub loop-j-init : goal.loop-j-init

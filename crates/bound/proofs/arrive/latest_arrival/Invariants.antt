@@ -1,11 +1,8 @@
-use Prim.Native.Nat.{ℕ, ◌-◌, ◌≤◌}
-use mathlib.Core.Path.{◌≡◌, subst}
-use native.Mathlib.Omega.{arith}
+use Prim.Native.Nat.{◌-◌, ◌≤◌}
+use mathlib.Core.Path.{◌≡◌}
 use Rattle.types.specs.Code.{label_of}
 use Rattle.rows.specs.Table.{count_in}
 use Rattle.bound.specs.Bound.{Latest}
-use Rattle.bound.proofs.Arriving.{latest-none, latest-more}
-use borrow.Author.Rules.{rules}
 use Rattle.bound.proofs.arrive.latest_arrival.Given as goal
 
 abbrev pub invariant-loop-j : goal.invariant-loop-j

@@ -3,7 +3,6 @@ use mathlib.Core.Path.{ap, ◌∙◌}
 use Rattle.maps.specs.Label.{leq}
 use Rattle.types.specs.Code.{label_of}
 use Rattle.bound.proofs.Arriving.{level-first, level-own, level-past}
-use borrow.Author.Rules.{rules}
 use Rattle.bound.proofs.arrive.level_in.Goals as goal
 
 pub returns-then-at_most : goal.returns-then-at_most

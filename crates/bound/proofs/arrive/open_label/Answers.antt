@@ -6,7 +6,6 @@ use Rattle.maps.specs.Window.{between}
 use Rattle.maps.proofs.Windows.{next-fields}
 use Rattle.types.specs.Code.{label_of}
 use Rattle.rows.specs.Table.{open_in, closing, delay_in}
-use borrow.Author.Rules.{rules}
 use Rattle.bound.proofs.Arriving.{open-whole, open_kept, open-moved}
 use Rattle.bound.proofs.arrive.open_label.Goals as goal
 

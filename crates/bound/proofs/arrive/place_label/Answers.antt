@@ -2,7 +2,6 @@
 use Prim.Native.Nat.{ℕ, ◌+◌, ◌≤◌, ◌<◌, min}
 use mathlib.Core.Path.{refl, subst, ap, ◌∙◌}
 use Rattle.types.specs.Code.{label_of}
-use borrow.Author.Rules.{rules}
 use Rattle.bound.proofs.arrive.place_label.Goals as goal
 
 pub returns-then-end-horizon : goal.returns-then-end-horizon

@@ -1,6 +1,6 @@
 -- `asked::after_differences` meets its contract. The invariant: `most` is the greatest over the heeded differences into v from e on, and e is 0 or
 -- one more than the next of them.
-use Prim.Native.Nat.{ℕ, ◌+◌, ◌-◌, ◌≤◌, ◌<◌}
+use Prim.Native.Nat.{ℕ, ◌-◌, ◌≤◌, ◌<◌}
 use mathlib.Core.Path.{◌≡◌, refl, sym, ap, ◌∙◌}
 use mathlib.Core.List.{List}
 use mathlib.Core.Bool.{Bool, true, false}
@@ -10,10 +10,9 @@ use lib.Dec.{ltb}
 use lib.ListN.{get_or}
 use borrow.Author.Tests.{ltb-true, ltb-false}
 use Rattle.rows.specs.Table.{to_in}
-use Rattle.bound.specs.Lookup.{last_into, Heeded}
-use Rattle.bound.specs.Bound.{Greatest, Into, push_of}
+use Rattle.bound.specs.Lookup.{last_into}
+use Rattle.bound.specs.Bound.{Into, push_of}
 use Rattle.bound.proofs.Asking.{greatest-none, greatest-more, greatest-same, last-le, last-hit, last_none, head-le, head-hit, head-none}
-use borrow.Author.Rules.{rules}
 use Rattle.bound.proofs.asked.after_differences.Goals as goal
 
 -- a difference into v from n on, where n is the one before e: from e on, or e itself

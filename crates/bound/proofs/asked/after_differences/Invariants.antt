@@ -1,17 +1,8 @@
-use Prim.Native.Nat.{ℕ, ◌+◌, ◌-◌, ◌≤◌, ◌<◌}
-use mathlib.Core.Path.{◌≡◌, refl, sym, ap, ◌∙◌}
-use mathlib.Core.List.{List}
-use mathlib.Core.Bool.{Bool, true, false}
-use mathlib.Core.Logic.{◌⊎◌, inl, inr}
-use native.Mathlib.Omega.{arith}
-use lib.Dec.{ltb}
-use lib.ListN.{get_or}
-use borrow.Author.Tests.{ltb-true, ltb-false}
+use Prim.Native.Nat.{ℕ, ◌+◌, ◌≤◌, ◌<◌}
+use mathlib.Core.Path.{◌≡◌}
 use Rattle.rows.specs.Table.{to_in}
-use Rattle.bound.specs.Lookup.{last_into, Heeded}
+use Rattle.bound.specs.Lookup.{Heeded}
 use Rattle.bound.specs.Bound.{Greatest, Into, push_of}
-use Rattle.bound.proofs.Asking.{greatest-none, greatest-more, greatest-same, last-le, last-hit, last_none, head-le, head-hit, head-none}
-use borrow.Author.Rules.{rules}
 use Rattle.bound.proofs.asked.after_differences.Given as goal
 
 abbrev pub invariant-loop-e : goal.invariant-loop-e

@@ -1,11 +1,9 @@
 -- `asked::after_operands` meets its contract. The invariant: `most` is the latest over the first j operands.
-use Prim.Native.Nat.{ℕ, ◌-◌, ◌≤◌, ◌<◌, max}
-use mathlib.Core.Path.{◌≡◌, subst, ap, ◌∙◌}
+use Prim.Native.Nat.{ℕ, ◌<◌, max}
+use mathlib.Core.Path.{subst, ap, ◌∙◌}
 use native.Mathlib.Omega.{arith}
-use Rattle.rows.specs.Table.{count_in}
 use Rattle.bound.specs.Bound.{Greatest, ready_step}
 use Rattle.bound.proofs.Asking.{greatest-none, greatest-next, operand-ready}
-use borrow.Author.Rules.{rules}
 use Rattle.bound.proofs.asked.after_operands.Goals as goal
 
 pub loop-j-init : goal.loop-j-init

@@ -1,10 +1,7 @@
-use Prim.Native.Nat.{ℕ, ◌-◌, ◌≤◌, ◌<◌, max}
-use mathlib.Core.Path.{◌≡◌, subst, ap, ◌∙◌}
-use native.Mathlib.Omega.{arith}
+use Prim.Native.Nat.{◌-◌, ◌≤◌, ◌<◌}
+use mathlib.Core.Path.{◌≡◌}
 use Rattle.rows.specs.Table.{count_in}
 use Rattle.bound.specs.Bound.{Greatest, ready_step}
-use Rattle.bound.proofs.Asking.{greatest-none, greatest-next, operand-ready}
-use borrow.Author.Rules.{rules}
 use Rattle.bound.proofs.asked.after_operands.Given as goal
 
 abbrev pub invariant-loop-j : goal.invariant-loop-j

@@ -4,7 +4,6 @@ use Rattle.maps.specs.Label.{Label, label, later}
 use Rattle.types.specs.Code.{label_of}
 use Rattle.bound.specs.Lookup.{label_in}
 use Rattle.bound.proofs.Safety.{delay-is}
-use borrow.Author.Rules.{rules}
 use Rattle.bound.proofs.asked.base_label.Goals as goal
 
 pub returns : goal.returns

@@ -1,11 +1,10 @@
 -- `asked::link` meets its contract.
-use Prim.Native.Nat.{ℕ, ◌-◌, ◌≤◌}
-use mathlib.Core.Path.{◌≡◌, subst}
+use Prim.Native.Nat.{ℕ}
+use mathlib.Core.Path.{subst}
 use native.Mathlib.Omega.{arith}
-use lib.ListN.{length, length-replicate}
+use lib.ListN.{length-replicate}
 use Rattle.bound.specs.Lookup.{Linked}
 use Rattle.bound.proofs.Asking.{linked-none}
-use borrow.Author.Rules.{rules}
 use Rattle.bound.proofs.asked.link.Goals as goal
 
 pub loop-i-init : goal.loop-i-init

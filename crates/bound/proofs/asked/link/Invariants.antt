@@ -1,10 +1,7 @@
-use Prim.Native.Nat.{ℕ, ◌-◌, ◌≤◌}
-use mathlib.Core.Path.{◌≡◌, subst}
-use native.Mathlib.Omega.{arith}
-use lib.ListN.{length, length-replicate}
+use Prim.Native.Nat.{◌-◌, ◌≤◌}
+use mathlib.Core.Path.{◌≡◌}
+use lib.ListN.{length}
 use Rattle.bound.specs.Lookup.{Linked}
-use Rattle.bound.proofs.Asking.{linked-none}
-use borrow.Author.Rules.{rules}
 use Rattle.bound.proofs.asked.link.Given as goal
 
 abbrev pub invariant-loop-i : goal.invariant-loop-i

@@ -5,7 +5,6 @@ use native.Mathlib.Omega.{arith}
 use lib.ListN.{get_or, set, length-set}
 use Rattle.bound.specs.Lookup.{Linked}
 use Rattle.bound.proofs.Asking.{linked-more}
-use borrow.Author.Rules.{rules}
 use Rattle.bound.proofs.asked.link_one.Goals as goal
 
 pub returns : goal.returns

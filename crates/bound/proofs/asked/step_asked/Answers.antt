@@ -6,7 +6,6 @@ use Rattle.rows.specs.Table.{count_in}
 use Rattle.bound.specs.Bound.{Greatest, ready_step}
 use Rattle.bound.proofs.Safety.{graph-falls, node_in, few-differences, soon-all, summed-all}
 use Rattle.bound.proofs.Bounds.{asks-tables, asks-small}
-use borrow.Author.Rules.{rules}
 use Rattle.bound.proofs.asked.step_asked.Goals as goal
 
 pub after_operands-s-requires : goal.after_operands-s-requires

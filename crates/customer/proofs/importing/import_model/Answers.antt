@@ -1,5 +1,4 @@
 -- `importing::import_model` meets its contract.
-use borrow.Author.Rules.{rules}
 use Rattle.blif.specs.Limits.{caller}
 use Rattle.demands.proofs.Imports.{imports, import-bounded}
 use Rattle.customer.proofs.importing.import_model.Goals as goal

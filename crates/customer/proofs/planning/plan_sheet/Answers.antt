@@ -1,6 +1,5 @@
 -- `planning::plan_sheet` meets its contract.
 use native.Mathlib.Omega.{arith}
-use borrow.Author.Rules.{rules}
 use Rattle.maps.specs.Number.{Bytes}
 use Rattle.demands.proofs.Demands.{demand-1, demand-2, demand-3}
 use Rattle.demands.proofs.Bounds.{bounded}

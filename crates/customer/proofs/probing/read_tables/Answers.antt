@@ -1,6 +1,5 @@
 -- `probing::read_tables` meets its contract.
 use native.Mathlib.Omega.{arith}
-use borrow.Author.Rules.{rules}
 use Rattle.maps.specs.Number.{Bytes}
 use Rattle.demands.proofs.Reading.{reads}
 use Rattle.customer.proofs.probing.read_tables.Goals as goal

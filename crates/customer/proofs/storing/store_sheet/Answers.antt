@@ -1,5 +1,4 @@
 -- `storing::store_sheet` meets its contract.
-use borrow.Author.Rules.{rules}
 use Rattle.records.specs.Rows.{records_in}
 use Rattle.demands.proofs.Stores.{stores, store-bounded}
 use Rattle.customer.proofs.storing.store_sheet.Goals as goal

@@ -1,7 +1,6 @@
 -- `cut::all_leaves` meets its contract: those before j may all be leaves.
-use Prim.Native.Nat.{ℕ, ◌-◌, ◌≤◌, ◌<◌}
+use Prim.Native.Nat.{◌-◌}
 use mathlib.Core.Path.{◌≡◌}
-use borrow.Author.Rules.{rules}
 use borrow.Author.Count.{below_more, below_none}
 use native.Mathlib.Omega.{arith}
 use lib.ListN.{get_or}

@@ -1,10 +1,6 @@
 use Prim.Native.Nat.{ℕ, ◌-◌, ◌≤◌, ◌<◌}
 use mathlib.Core.Path.{◌≡◌}
-use borrow.Author.Rules.{rules}
-use borrow.Author.Count.{below_more, below_none}
-use native.Mathlib.Omega.{arith}
 use lib.ListN.{get_or}
-use Rattle.maps.proofs.Enumerate.{clash}
 use Rattle.cut.proofs.quick.all_leaves.Given as goal
 
 abbrev pub invariant-loop-j : goal.invariant-loop-j

@@ -1,5 +1,4 @@
 -- `cut::ask` meets its contract: by the walk where the leaves of its cone may all be leaves, and else by the search.
-use borrow.Author.Rules.{rules}
 use native.Mathlib.Omega.{arith}
 use Rattle.cut.proofs.WalkFirst.{walk-asked, walk-allowed}
 use Rattle.cut.proofs.quick.ask.Goals as goal

@@ -1,5 +1,4 @@
 -- `cut::inside_mark` meets its contract.
-use borrow.Author.Rules.{rules}
 use Rattle.cut.proofs.WalkFirst.{no-mark}
 use Rattle.cut.proofs.quick.inside_mark.Goals as goal
 

@@ -1,10 +1,9 @@
 -- `cut::mark_inside` meets its contract: the marks below u are set, and those from u on are still 0.
-use Prim.Native.Nat.{ℕ, ◌-◌, ◌≤◌, ◌<◌}
-use mathlib.Core.Path.{◌≡◌}
+use Prim.Native.Nat.{ℕ, ◌-◌}
 use borrow.Author.Rules.{rules}
 use borrow.Author.Count.{below_none}
 use native.Mathlib.Omega.{arith}
-use lib.ListN.{length, get_or, length-replicate}
+use lib.ListN.{length-replicate}
 use Rattle.maps.proofs.Member.{zeros-at}
 use Rattle.cut.specs.Quick.{inside_mark}
 use Rattle.cut.proofs.WalkFirst.{mark-more}

@@ -1,12 +1,7 @@
 use Prim.Native.Nat.{ℕ, ◌-◌, ◌≤◌, ◌<◌}
 use mathlib.Core.Path.{◌≡◌}
-use borrow.Author.Rules.{rules}
-use borrow.Author.Count.{below_none}
-use native.Mathlib.Omega.{arith}
-use lib.ListN.{length, get_or, length-replicate}
-use Rattle.maps.proofs.Member.{zeros-at}
+use lib.ListN.{length, get_or}
 use Rattle.cut.specs.Quick.{inside_mark}
-use Rattle.cut.proofs.WalkFirst.{mark-more}
 use Rattle.cut.proofs.quick.mark_inside.Given as goal
 
 abbrev pub invariant-loop-u : goal.invariant-loop-u

@@ -1,9 +1,7 @@
 -- `call::import_blif` meets its contract: the caller's numbers and the text's length first.
-use mathlib.Core.Path.{◌≡◌, refl, sym, ap, ◌∙◌}
-use borrow.Author.Rules.{rules}
+use mathlib.Core.Path.{refl, sym, ◌∙◌}
 use native.Mathlib.Omega.{arith}
 use lib.ListN.{length}
-use borrow.Author.Tests.{not-true, not-false}
 use Rattle.blif.specs.Limits.{caller}
 use Rattle.blif.proofs.Sheets.{callable-true}
 use Rattle.importer.proofs.Calls.{answered-as, barred-caller, barred-text}

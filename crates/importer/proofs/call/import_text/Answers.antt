@@ -1,7 +1,5 @@
 -- `call::import_text` meets its contract.
-use mathlib.Core.Path.{◌≡◌, refl, sym, subst, ap, ◌∙◌}
-use borrow.Author.Rules.{rules}
-use native.Mathlib.Omega.{arith}
+use mathlib.Core.Path.{refl, sym, subst}
 use lib.ListN.{length}
 use Rattle.blif.specs.Limits.{delay}
 use Rattle.model.specs.Turns.{ModelRead}

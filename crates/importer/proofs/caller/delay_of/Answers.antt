@@ -1,5 +1,4 @@
 -- `caller::delay_of` meets its contract: d is at most the table's picoseconds, so it fits.
-use borrow.Author.Rules.{rules}
 use native.Mathlib.Omega.{arith}
 use Rattle.importer.proofs.CallerLaws.{delay-most}
 use Rattle.importer.proofs.caller.delay_of.Goals as goal

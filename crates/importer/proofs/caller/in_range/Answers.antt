@@ -1,6 +1,5 @@
 -- `caller::in_range` meets its contract.
 use mathlib.Core.Path.{sym}
-use borrow.Author.Rules.{rules}
 use Rattle.ranges.specs.Ranges.{field_range}
 use Rattle.importer.proofs.CallerLaws.{passes-low, passes-from}
 use Rattle.importer.proofs.caller.in_range.Goals as goal

@@ -2,7 +2,6 @@
 use Prim.Native.Nat.{ℕ}
 use mathlib.Core.Path.{sym, ap, ◌∙◌}
 use lib.Dec.{leb}
-use borrow.Author.Rules.{rules}
 use Rattle.blif.specs.Limits.{caller}
 use Rattle.importer.proofs.CallerLaws.{leaves-fail, top-fail, horizon-fail, table-fail, level-fail, delay-decides}
 use Rattle.importer.proofs.caller.is_callable.Goals as goal

@@ -4,7 +4,6 @@ use Rattle.maps.specs.Sheet.{is_logic}
 use Rattle.types.specs.Code.{kind_meant}
 use Rattle.types.specs.declared.Kind as K
 use Rattle.level.proofs.CutTests.{fit-other, fit-tried}
-use borrow.Author.Rules.{rules}
 use Rattle.level.proofs.cuts.has_cut.Goals as goal
 
 -- the kind in the table is the one of the arm

@@ -1,8 +1,7 @@
 -- `cuts::keep_cut` meets its contract. The invariant: the count and the first j leaves are written.
-use Prim.Native.Nat.{◌-◌, ◌≤◌}
+use Prim.Native.Nat.{◌-◌}
 use native.Mathlib.Omega.{arith}
-use Rattle.level.proofs.CutRows.{Filling, filling-none, filling-more, filling-done}
-use borrow.Author.Rules.{rules}
+use Rattle.level.proofs.CutRows.{filling-none}
 use Rattle.level.proofs.cuts.keep_cut.Goals as goal
 
 pub loop-j-init : goal.loop-j-init

@@ -1,7 +1,5 @@
 use Prim.Native.Nat.{◌-◌, ◌≤◌}
-use native.Mathlib.Omega.{arith}
-use Rattle.level.proofs.CutRows.{Filling, filling-none, filling-more, filling-done}
-use borrow.Author.Rules.{rules}
+use Rattle.level.proofs.CutRows.{Filling}
 use Rattle.level.proofs.cuts.keep_cut.Given as goal
 
 abbrev pub invariant-loop-j : goal.invariant-loop-j

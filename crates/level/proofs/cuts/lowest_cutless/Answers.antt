@@ -1,12 +1,8 @@
 -- `cuts::lowest_cutless` meets its contract. The invariant: a fitting cut of each logic node below v is kept.
-use Prim.Native.Nat.{ℕ, ◌-◌, ◌≤◌}
+use Prim.Native.Nat.{ℕ, ◌-◌}
 use native.Mathlib.Omega.{arith}
-use mathlib.Core.Path.{◌≡◌}
-use lib.ListN.{length, length-replicate}
-use Rattle.maps.specs.Sheet.{Sheet}
-use Rattle.level.proofs.CutTests.{KeptTo, kept-none, kept_more, lowest-found, lowest-none}
-use borrow.Author.Tests.{not-true, not-false}
-use borrow.Author.Rules.{rules}
+use lib.ListN.{length-replicate}
+use Rattle.level.proofs.CutTests.{kept-none, kept_more, lowest-found, lowest-none}
 use Rattle.level.proofs.cuts.lowest_cutless.Goals as goal
 
 pub loop-v-init : goal.loop-v-init

@@ -1,11 +1,8 @@
-use Prim.Native.Nat.{ℕ, ◌-◌, ◌≤◌}
-use native.Mathlib.Omega.{arith}
+use Prim.Native.Nat.{◌-◌, ◌≤◌}
 use mathlib.Core.Path.{◌≡◌}
-use lib.ListN.{length, length-replicate}
+use lib.ListN.{length}
 use Rattle.maps.specs.Sheet.{Sheet}
-use Rattle.level.proofs.CutTests.{KeptTo, kept-none, kept_more, lowest-found, lowest-none}
-use borrow.Author.Tests.{not-true, not-false}
-use borrow.Author.Rules.{rules}
+use Rattle.level.proofs.CutTests.{KeptTo}
 use Rattle.level.proofs.cuts.lowest_cutless.Given as goal
 
 abbrev pub invariant-loop-v : goal.invariant-loop-v

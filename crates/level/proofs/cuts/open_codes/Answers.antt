@@ -1,12 +1,11 @@
 -- `cuts::open_codes` meets its contract. The invariant: the codes below u are written.
-use Prim.Native.Nat.{◌-◌, ◌≤◌}
+use Prim.Native.Nat.{◌-◌}
 use mathlib.Core.Path.{ap, ◌∙◌}
 use mathlib.Core.Bool.{true}
 use native.Mathlib.Omega.{arith}
 use Rattle.maps.specs.Sheet.{Kind, is_logic}
 use Rattle.cut.specs.Question.{code_for}
-use Rattle.level.proofs.CutTests.{OpenTo, open_none, open_more}
-use borrow.Author.Rules.{rules}
+use Rattle.level.proofs.CutTests.{open_none, open_more}
 use Rattle.level.proofs.cuts.open_codes.Goals as goal
 
 pub loop-u-init : goal.loop-u-init

@@ -2,7 +2,6 @@
 use mathlib.Core.Path.{refl, sym}
 use Rattle.maps.proofs.Enumerate.{clash}
 use Rattle.level.proofs.CutRows.{tried-none, tried-kept}
-use borrow.Author.Rules.{rules}
 use Rattle.level.proofs.cuts.try_cut.Goals as goal
 
 pub returns-then-found-k : goal.returns-then-found-k

@@ -1,5 +1,5 @@
 -- `level::carried` meets its contract. The invariant: `most` is the least level by which the first j leaves arrive.
-use Prim.Native.Nat.{ℕ, ◌-◌, ◌≤◌}
+use Prim.Native.Nat.{ℕ, ◌-◌}
 use mathlib.Core.Path.{◌≡◌, sym, subst}
 use native.Mathlib.Omega.{arith}
 use Rattle.maps.specs.Label.{Label}
@@ -7,7 +7,6 @@ use Rattle.bound.specs.Lookup.{count_of, Soon}
 use Rattle.bound.specs.Bound.{Carrying}
 use Rattle.bound.proofs.Arriving.{carrying-none, carrying-more}
 use Rattle.level.proofs.LevelSpan.{arrival_of, leaf-arrives}
-use borrow.Author.Rules.{rules}
 use Rattle.level.proofs.level.carried.Goals as goal
 
 pub loop-j-init : goal.loop-j-init

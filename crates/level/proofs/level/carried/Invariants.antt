@@ -1,12 +1,8 @@
-use Prim.Native.Nat.{ℕ, ◌-◌, ◌≤◌}
-use mathlib.Core.Path.{◌≡◌, sym, subst}
-use native.Mathlib.Omega.{arith}
-use Rattle.maps.specs.Label.{Label}
-use Rattle.bound.specs.Lookup.{count_of, Soon}
+use Prim.Native.Nat.{◌-◌, ◌≤◌}
+use mathlib.Core.Path.{◌≡◌}
+use Rattle.bound.specs.Lookup.{count_of}
 use Rattle.bound.specs.Bound.{Carrying}
-use Rattle.bound.proofs.Arriving.{carrying-none, carrying-more}
-use Rattle.level.proofs.LevelSpan.{arrival_of, leaf-arrives}
-use borrow.Author.Rules.{rules}
+use Rattle.level.proofs.LevelSpan.{arrival_of}
 use Rattle.level.proofs.level.carried.Given as goal
 
 abbrev pub invariant-loop-j : goal.invariant-loop-j

@@ -3,7 +3,6 @@ use Rattle.types.specs.Code.{label_of, kind_meant}
 use Rattle.rows.specs.Table.{kind_at}
 use Rattle.bound.specs.Lookup.{arrival_in}
 use Rattle.level.proofs.LevelCodes.{code-from}
-use borrow.Author.Rules.{rules}
 use Rattle.level.proofs.level.code_of.Goals as goal
 
 pub returns : goal.returns

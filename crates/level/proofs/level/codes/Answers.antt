@@ -1,10 +1,10 @@
 -- `level::codes` meets its contract. The invariant: the codes of the nodes below u stand.
-use Prim.Native.Nat.{◌-◌, ◌≤◌}
-use mathlib.Core.Path.{◌≡◌, refl, ◌∙◌}
+use Prim.Native.Nat.{◌-◌}
+use mathlib.Core.Path.{refl, ◌∙◌}
 use native.Mathlib.Omega.{arith}
-use lib.ListN.{length, length-set, get_or-replicate}
+use lib.ListN.{length-set, get_or-replicate}
 use Rattle.types.specs.Code.{label_of}
-use Rattle.level.proofs.LevelCodes.{Coded, code_is, coded_none, coded-more, coded-all}
+use Rattle.level.proofs.LevelCodes.{code_is, coded_none, coded-more, coded-all}
 use borrow.Author.Rules.{rules}
 use Rattle.level.proofs.level.codes.Goals as goal
 

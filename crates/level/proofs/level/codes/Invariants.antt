@@ -1,10 +1,8 @@
 use Prim.Native.Nat.{◌-◌, ◌≤◌}
-use mathlib.Core.Path.{◌≡◌, refl, ◌∙◌}
-use native.Mathlib.Omega.{arith}
-use lib.ListN.{length, length-set, get_or-replicate}
+use mathlib.Core.Path.{◌≡◌}
+use lib.ListN.{length}
 use Rattle.types.specs.Code.{label_of}
-use Rattle.level.proofs.LevelCodes.{Coded, code_is, coded_none, coded-more, coded-all}
-use borrow.Author.Rules.{rules}
+use Rattle.level.proofs.LevelCodes.{Coded}
 use Rattle.level.proofs.level.codes.Given as goal
 
 abbrev pub invariant-loop-u : goal.invariant-loop-u

@@ -1,10 +1,7 @@
 -- `level::least_level` meets its contract. The invariant: the level lies in the span.
 use Prim.Native.Nat.{◌-◌}
-use mathlib.Core.Path.{◌≡◌}
-use lib.ListN.{length}
 use native.Mathlib.Omega.{arith}
-use Rattle.level.proofs.LevelSpan.{placed-top, kept_leaves, Spanned, spanned-first, spanned-more, spanned-last}
-use borrow.Author.Rules.{rules}
+use Rattle.level.proofs.LevelSpan.{placed-top, kept_leaves, spanned-first, spanned-more, spanned-last}
 use Rattle.level.proofs.level.least_level.Goals as goal
 
 pub carried-most-requires : goal.carried-most-requires

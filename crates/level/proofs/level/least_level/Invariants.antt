@@ -1,9 +1,7 @@
 use Prim.Native.Nat.{◌-◌}
 use mathlib.Core.Path.{◌≡◌}
 use lib.ListN.{length}
-use native.Mathlib.Omega.{arith}
-use Rattle.level.proofs.LevelSpan.{placed-top, kept_leaves, Spanned, spanned-first, spanned-more, spanned-last}
-use borrow.Author.Rules.{rules}
+use Rattle.level.proofs.LevelSpan.{Spanned}
 use Rattle.level.proofs.level.least_level.Given as goal
 
 abbrev pub invariant-loop-span : goal.invariant-loop-span

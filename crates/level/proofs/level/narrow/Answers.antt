@@ -1,11 +1,9 @@
 -- `level::narrow` meets its contract.
 use native.Mathlib.Omega.{arith}
-use borrow.Author.Tests.{not-true, not-false}
 use Rattle.types.specs.Code.{label_of}
 use Rattle.rows.proofs.Tables.{falling}
 use Rattle.level.proofs.LevelCodes.{placed-in}
 use Rattle.level.proofs.LevelSpan.{placed-top, placed-few, kept_leaves, tried-at, tried-true, narrowed-up, narrowed-down}
-use borrow.Author.Rules.{rules}
 use Rattle.level.proofs.level.narrow.Goals as goal
 
 pub try_level-requires : goal.try_level-requires

@@ -1,7 +1,6 @@
 -- `level::table_label` meets its contract.
 use native.Mathlib.Omega.{arith}
 use Rattle.level.proofs.LevelLabel.{label-here, label-next}
-use borrow.Author.Rules.{rules}
 use Rattle.level.proofs.level.table_label.Goals as goal
 
 pub least_level-l-requires : goal.least_level-l-requires

@@ -1,6 +1,5 @@
 -- `line::read_line` meets its contract.
-use mathlib.Core.Path.{◌≡◌, refl, sym, ◌∙◌}
-use borrow.Author.Rules.{rules}
+use mathlib.Core.Path.{refl, sym, ◌∙◌}
 use Rattle.blif.proofs.Walking.{words-none}
 use Rattle.model.proofs.Turning.{turn-empty}
 use Rattle.model.proofs.line.read_line.Goals as goal

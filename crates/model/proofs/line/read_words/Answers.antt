@@ -1,11 +1,8 @@
 -- `line::read_words` meets its contract: the line's ground decides.
-use Prim.Native.Nat.{ℕ, suc, ◌+◌, ◌<◌, ◌≤◌}
-use mathlib.Core.Path.{◌≡◌, refl, sym, ap, ◌∙◌}
-use mathlib.Core.List.{List, ◌∷◌, ◌++◌}
-use borrow.Author.Rules.{rules}
+use Prim.Native.Nat.{◌+◌}
+use mathlib.Core.Path.{refl, sym, ap, ◌∙◌}
+use mathlib.Core.List.{◌∷◌, ◌++◌}
 use native.Mathlib.Omega.{arith}
-use lib.ListN.{length}
-use Rattle.blif.specs.Words.{Word}
 use Rattle.blif.specs.Scan.{name_at, words_at}
 use Rattle.blif.specs.Subset.{Statement, stage_after, statement as statement_of}
 use Rattle.blif.specs.Names.{defined}

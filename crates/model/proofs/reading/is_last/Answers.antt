@@ -1,7 +1,6 @@
 -- `reading::is_last` meets its contract.
 use Prim.Native.Nat.{ℕ}
 use mathlib.Core.Path.{◌≡◌, refl, sym, ap, ◌∙◌}
-use borrow.Author.Rules.{rules}
 use native.Mathlib.Omega.{arith}
 use Rattle.blif.specs.Subset.{Stage, first, head, cover, latched, last}
 use Rattle.subset.specs.Meant.{stage_meant}

@@ -1,12 +1,8 @@
 -- `reading::read_lines` meets its contract: what is kept and the lines that are left decide the model.
-use Prim.Native.Nat.{◌-◌, ◌≤◌, ◌<◌}
-use mathlib.Core.Path.{◌≡◌, refl, sym, subst, ap, ◌∙◌}
-use borrow.Author.Rules.{rules}
+use Prim.Native.Nat.{◌-◌}
+use mathlib.Core.Path.{refl}
 use native.Mathlib.Omega.{arith}
-use lib.ListN.{length}
-use Rattle.model.specs.Turns.{Turned, LinesRead}
-use Rattle.model.specs.declared.line.Turn.{Turn}
-use Rattle.model.proofs.Turning.{Reached, reach-first, reach-next, reach-fault, reach-last}
+use Rattle.model.proofs.Turning.{reach-first, reach-next, reach-fault, reach-last}
 use Rattle.model.proofs.reading.read_lines.Goals as goal
 
 pub loop-at-init : goal.loop-at-init

@@ -1,11 +1,6 @@
-use Prim.Native.Nat.{◌-◌, ◌≤◌, ◌<◌}
-use mathlib.Core.Path.{◌≡◌, refl, sym, subst, ap, ◌∙◌}
-use borrow.Author.Rules.{rules}
-use native.Mathlib.Omega.{arith}
+use Prim.Native.Nat.{◌-◌}
 use lib.ListN.{length}
-use Rattle.model.specs.Turns.{Turned, LinesRead}
-use Rattle.model.specs.declared.line.Turn.{Turn}
-use Rattle.model.proofs.Turning.{Reached, reach-first, reach-next, reach-fault, reach-last}
+use Rattle.model.proofs.Turning.{Reached}
 use Rattle.model.proofs.reading.read_lines.Given as goal
 
 abbrev pub invariant-loop-at : goal.invariant-loop-at

@@ -1,13 +1,11 @@
 -- `reading::read_model` meets its contract.
 use Prim.Native.Nat.{◌+◌}
-use mathlib.Core.Path.{◌≡◌, refl, sym, subst, ap, ◌∙◌}
-use borrow.Author.Rules.{rules}
+use mathlib.Core.Path.{sym, subst, ap, ◌∙◌}
 use native.Mathlib.Omega.{arith}
 use Rattle.blif.specs.Model.{faulty}
 use Rattle.blif.proofs.Walking.{lines-most}
 use Rattle.model.proofs.Turning.{ends_read, ends-missing, ends-fault}
 use Rattle.model.specs.Turns.{LastStage}
-use Rattle.subset.specs.Meant.{stage_meant}
 use Rattle.model.proofs.reading.read_model.Goals as goal
 
 pub returns-then-is_last : goal.returns-then-is_last

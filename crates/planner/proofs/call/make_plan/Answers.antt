@@ -1,6 +1,5 @@
 -- `call::make_plan` meets its contract.
 use mathlib.Core.Path.{◌∙◌}
-use borrow.Author.Rules.{rules}
 use Rattle.maps.proofs.Planned.{refused-outcome, sheet-outcome}
 use Rattle.sheet.proofs.After.{was_read, was-refused}
 use Rattle.planner.proofs.Drafts.{given, own}

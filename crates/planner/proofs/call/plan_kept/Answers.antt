@@ -1,5 +1,4 @@
 -- `call::plan_kept` meets its contract.
-use borrow.Author.Rules.{rules}
 use Rattle.planner.proofs.Drafts.{never-outcome, late-outcome, found-legal, found-outcome}
 use Rattle.planner.proofs.call.plan_kept.Goals as goal
 

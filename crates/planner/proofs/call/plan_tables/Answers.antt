@@ -1,6 +1,5 @@
 -- `call::plan_tables` meets its contract.
 use mathlib.Core.Path.{ap, ◌∙◌}
-use borrow.Author.Rules.{rules}
 use Rattle.maps.specs.Outcome.{covered}
 use Rattle.planner.proofs.Drafts.{all-cut}
 use Rattle.planner.proofs.call.plan_tables.Goals as goal

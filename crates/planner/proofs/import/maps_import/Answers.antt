@@ -1,6 +1,5 @@
 -- `import::maps_import` meets its contract: it answers what `import_blif` does.
 use mathlib.Core.Path.{◌∙◌}
-use borrow.Author.Rules.{rules}
 use Rattle.planner.proofs.import.maps_import.Goals as goal
 
 pub returns : goal.returns

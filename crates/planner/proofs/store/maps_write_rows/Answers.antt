@@ -1,6 +1,5 @@
 -- `store::maps_write_rows` meets its contract: it answers what `write` does.
 use mathlib.Core.Path.{◌∙◌}
-use borrow.Author.Rules.{rules}
 use Rattle.planner.proofs.store.maps_write_rows.Goals as goal
 
 pub returns : goal.returns

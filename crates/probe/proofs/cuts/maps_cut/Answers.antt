@@ -1,6 +1,4 @@
 -- `probe::maps_cut` meets its contract.
-use borrow.Author.Rules.{rules}
-use borrow.Author.Tests.{not-true, not-false}
 use native.Mathlib.Omega.{arith}
 use mathlib.Core.Path.{refl, sym, subst}
 use Rattle.probe.specs.Probe.{CutAnswer, outside}

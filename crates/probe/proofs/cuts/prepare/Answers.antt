@@ -5,7 +5,6 @@ use Rattle.types.specs.Code.{kind_meant}
 use Rattle.types.specs.declared.Kind as K
 use Rattle.sheet.proofs.After.{was_read, was-refused}
 use Rattle.probe.proofs.Answers.{not-a-sheet, no_node, no-logic, small, prepared}
-use borrow.Author.Rules.{rules}
 use Rattle.probe.proofs.cuts.prepare.Goals as goal
 
 pub returns-in_default : goal.returns-in_default

@@ -1,12 +1,11 @@
 -- `probe::write_cut` meets its contract. The invariant: the first i leaves are written, and 0 stands after them.
-use Prim.Native.Nat.{ℕ, suc, ◌+◌, ◌-◌, ◌≤◌}
+use Prim.Native.Nat.{ℕ, suc, ◌+◌, ◌-◌}
 use native.Mathlib.Omega.{arith}
 use mathlib.Core.Path.{◌≡◌, refl, sym, ap, ◌∙◌}
 use mathlib.Core.List.{List, ◌++◌}
 use native.Mathlib.Numerals.{add-one}
 use lib.ListN.{length, get_or, set, take, replicate, length-set}
 use lib.Seq.{length-take-le}
-use borrow.Author.Rules.{rules}
 use Rattle.probe.proofs.Answers.{padded-more}
 use Rattle.probe.proofs.cuts.write_cut.Goals as goal
 

@@ -1,5 +1,4 @@
 -- `probe::maps_read` meets its contract.
-use borrow.Author.Rules.{rules}
 use mathlib.Core.Path.{refl}
 use Rattle.sheet.proofs.Readings.{exported, read_whole, read-refused}
 use Rattle.probe.proofs.reading.maps_read.Goals as goal

@@ -1,5 +1,4 @@
 -- `ranges::Ranges::clock_to_q` meets its contract: 0 alone, or the row's range up to top.
-use borrow.Author.Rules.{rules}
 use Rattle.ranges.proofs.RangeLaws.{no-latency, some-latency}
 use Rattle.ranges.proofs.Ranges.clock_to_q.Goals as goal
 

@@ -1,6 +1,5 @@
 -- `lines::after_line` meets its contract.
 use mathlib.Core.Path.{ap, ◌∙◌}
-use borrow.Author.Rules.{rules}
 use Rattle.blif.specs.Scan.{past, past_line}
 use Rattle.scan.proofs.Newlines.{later}
 use Rattle.scan.proofs.lines.after_line.Goals as goal

@@ -1,10 +1,8 @@
 -- `lines::after_newline` meets its contract: what is after the next byte 10 from the position is so from the start.
 use Prim.Native.Nat.{◌-◌, ◌≤◌, ◌<◌}
-use mathlib.Core.Path.{◌≡◌, refl, sym, ◌∙◌}
+use mathlib.Core.Path.{refl, sym, ◌∙◌}
 use native.Mathlib.Omega.{arith}
-use borrow.Author.Rules.{rules}
-use lib.ListN.{length, drop, drop_of_length-le}
-use Rattle.blif.specs.Scan.{past}
+use lib.ListN.{length, drop_of_length-le}
 use Rattle.scan.proofs.Newlines.{past-here, past-on, past_end}
 use Rattle.scan.proofs.lines.after_newline.Goals as goal
 

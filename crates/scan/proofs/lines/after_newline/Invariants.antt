@@ -1,10 +1,7 @@
-use Prim.Native.Nat.{◌-◌, ◌≤◌, ◌<◌}
-use mathlib.Core.Path.{◌≡◌, refl, sym, ◌∙◌}
-use native.Mathlib.Omega.{arith}
-use borrow.Author.Rules.{rules}
-use lib.ListN.{length, drop, drop_of_length-le}
+use Prim.Native.Nat.{◌-◌, ◌≤◌}
+use mathlib.Core.Path.{◌≡◌}
+use lib.ListN.{length, drop}
 use Rattle.blif.specs.Scan.{past}
-use Rattle.scan.proofs.Newlines.{past-here, past-on, past_end}
 use Rattle.scan.proofs.lines.after_newline.Given as goal
 
 abbrev pub invariant-loop-at : goal.invariant-loop-at

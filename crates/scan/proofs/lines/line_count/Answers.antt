@@ -2,7 +2,6 @@
 use Prim.Native.Nat.{◌<◌}
 use mathlib.Core.Path.{sym, ◌∙◌}
 use native.Mathlib.Omega.{arith}
-use borrow.Author.Rules.{rules}
 use lib.ListN.{length}
 use Rattle.scan.proofs.Newlines.{lines_none, lines-ended, lines-open}
 use Rattle.scan.proofs.lines.line_count.Goals as goal

@@ -1,12 +1,12 @@
 -- `lines::line_end` meets its contract: what is left to find from the position is what is to be found from the start.
-use Prim.Native.Nat.{◌+◌, ◌-◌, ◌≤◌}
-use mathlib.Core.Path.{◌≡◌, refl, sym, ◌∙◌}
+use Prim.Native.Nat.{◌-◌, ◌≤◌}
+use mathlib.Core.Path.{refl, sym, ◌∙◌}
 use native.Mathlib.Omega.{arith}
 use borrow.Author.Rules.{rules}
-use lib.ListN.{length, drop, drop_of_length-le}
+use lib.ListN.{length, drop_of_length-le}
 use Rattle.blif.proofs.Positions.{from_end}
 use Rattle.scan.proofs.Stepping.{turn-stays, turn-goes}
-use Rattle.blif.specs.Scan.{from, ends_line}
+use Rattle.blif.specs.Scan.{ends_line}
 use Rattle.scan.proofs.lines.line_end.Goals as goal
 
 pub loop-at-init : goal.loop-at-init

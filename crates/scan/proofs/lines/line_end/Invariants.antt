@@ -1,10 +1,6 @@
 use Prim.Native.Nat.{◌+◌, ◌-◌, ◌≤◌}
-use mathlib.Core.Path.{◌≡◌, refl, sym, ◌∙◌}
-use native.Mathlib.Omega.{arith}
-use borrow.Author.Rules.{rules}
-use lib.ListN.{length, drop, drop_of_length-le}
-use Rattle.blif.proofs.Positions.{from_end}
-use Rattle.scan.proofs.Stepping.{turn-stays, turn-goes}
+use mathlib.Core.Path.{◌≡◌}
+use lib.ListN.{length, drop}
 use Rattle.blif.specs.Scan.{from, ends_line}
 use Rattle.scan.proofs.lines.line_end.Given as goal
 

@@ -1,5 +1,4 @@
 -- `lines::line_step` meets its contract.
-use borrow.Author.Rules.{rules}
 use mathlib.Core.Path.{sym, ◌∙◌}
 use Rattle.scan.proofs.Stepping.{step-join, step-on, step-stop}
 use Rattle.scan.proofs.lines.line_step.Goals as goal

@@ -1,10 +1,7 @@
-use Prim.Native.Nat.{◌+◌, ◌-◌, ◌≤◌, ◌<◌}
-use mathlib.Core.Path.{◌≡◌, sym, ap, ◌∙◌}
-use mathlib.Core.Logic.{⊎_elim}
-use native.Mathlib.Omega.{arith}
-use lib.ListN.{length, take}
+use Prim.Native.Nat.{◌-◌, ◌≤◌}
+use mathlib.Core.Path.{◌≡◌}
+use lib.ListN.{take}
 use Rattle.blif.specs.Scan.{newlines}
-use Rattle.scan.proofs.Newlines.{one-counted, none-counted, none_before}
 use Rattle.scan.proofs.lines.newline_count.Given as goal
 
 abbrev pub invariant-loop-at : goal.invariant-loop-at

@@ -1,15 +1,12 @@
 -- `name::is_cover` meets its contract: the bytes so far are counted and each stands for a value.
-use Prim.Native.Nat.{◌+◌, ◌≤◌}
-use mathlib.Core.Path.{◌≡◌, sym, ap, ◌∙◌}
-use borrow.Author.Rules.{rules}
-use borrow.Author.Tests.{not-true, not-false}
+use mathlib.Core.Path.{sym, ap, ◌∙◌}
 use native.Mathlib.Omega.{arith}
 use lib.ListN.{length}
 use Rattle.maps.specs.Lists.{all}
 use Rattle.blif.specs.Scan.{name_at}
 use Rattle.blif.proofs.Walking.{name-length-most}
 use Rattle.scan.specs.Steps.{left}
-use Rattle.scan.proofs.NameBytes.{left-none, left-some, left-next, ahead, ahead-falls}
+use Rattle.scan.proofs.NameBytes.{left-none, left-some, left-next, ahead-falls}
 use Rattle.scan.proofs.Measuring.{literal, literals-more, literals-fail, no-literals, all-literals}
 use Rattle.scan.proofs.name.is_cover.Goals as goal
 

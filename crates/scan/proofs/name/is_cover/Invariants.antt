@@ -1,15 +1,11 @@
 use Prim.Native.Nat.{◌+◌, ◌≤◌}
-use mathlib.Core.Path.{◌≡◌, sym, ap, ◌∙◌}
-use borrow.Author.Rules.{rules}
-use borrow.Author.Tests.{not-true, not-false}
-use native.Mathlib.Omega.{arith}
+use mathlib.Core.Path.{◌≡◌}
 use lib.ListN.{length}
 use Rattle.maps.specs.Lists.{all}
 use Rattle.blif.specs.Scan.{name_at}
-use Rattle.blif.proofs.Walking.{name-length-most}
 use Rattle.scan.specs.Steps.{left}
-use Rattle.scan.proofs.NameBytes.{left-none, left-some, left-next, ahead, ahead-falls}
-use Rattle.scan.proofs.Measuring.{literal, literals-more, literals-fail, no-literals, all-literals}
+use Rattle.scan.proofs.NameBytes.{ahead}
+use Rattle.scan.proofs.Measuring.{literal}
 use Rattle.scan.proofs.name.is_cover.Given as goal
 
 abbrev pub invariant-loop-p : goal.invariant-loop-p

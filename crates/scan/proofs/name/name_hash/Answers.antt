@@ -1,13 +1,9 @@
 -- `name::name_hash` meets its contract: the hash so far, with what is left of the name, is the name's.
-use Prim.Native.Nat.{◌≤◌}
-use mathlib.Core.Path.{◌≡◌, sym, ap, ◌∙◌}
-use borrow.Author.Rules.{rules}
+use mathlib.Core.Path.{sym, ap, ◌∙◌}
 use native.Mathlib.Omega.{arith}
-use lib.ListN.{length}
-use Rattle.blif.specs.Scan.{name_at}
 use Rattle.scan.specs.Steps.{left}
 use Rattle.scan.specs.Hash.{hash_from, hash_of}
-use Rattle.scan.proofs.NameBytes.{left-none, left-next, ahead, ahead-falls}
+use Rattle.scan.proofs.NameBytes.{left-none, left-next, ahead-falls}
 use Rattle.scan.proofs.Measuring.{hash-none, hash-more}
 use Rattle.scan.proofs.name.name_hash.Goals as goal
 

@@ -1,13 +1,10 @@
 use Prim.Native.Nat.{◌≤◌}
-use mathlib.Core.Path.{◌≡◌, sym, ap, ◌∙◌}
-use borrow.Author.Rules.{rules}
-use native.Mathlib.Omega.{arith}
+use mathlib.Core.Path.{◌≡◌}
 use lib.ListN.{length}
 use Rattle.blif.specs.Scan.{name_at}
 use Rattle.scan.specs.Steps.{left}
 use Rattle.scan.specs.Hash.{hash_from, hash_of}
-use Rattle.scan.proofs.NameBytes.{left-none, left-next, ahead, ahead-falls}
-use Rattle.scan.proofs.Measuring.{hash-none, hash-more}
+use Rattle.scan.proofs.NameBytes.{ahead}
 use Rattle.scan.proofs.name.name_hash.Given as goal
 
 abbrev pub invariant-loop-p : goal.invariant-loop-p

@@ -1,13 +1,9 @@
 -- `name::name_length` meets its contract: the bytes counted and those that are left are the name's.
-use Prim.Native.Nat.{◌+◌, ◌≤◌}
-use mathlib.Core.Path.{◌≡◌, ap}
-use borrow.Author.Rules.{rules}
+use mathlib.Core.Path.{ap}
 use native.Mathlib.Omega.{arith}
 use lib.ListN.{length}
-use Rattle.blif.specs.Scan.{name_at}
 use Rattle.blif.proofs.Walking.{name-length-most}
-use Rattle.scan.specs.Steps.{left}
-use Rattle.scan.proofs.NameBytes.{left-none, left-next, ahead, ahead-falls}
+use Rattle.scan.proofs.NameBytes.{left-none, left-next, ahead-falls}
 use Rattle.scan.proofs.name.name_length.Goals as goal
 
 pub loop-p-init : goal.loop-p-init

@@ -1,12 +1,9 @@
 use Prim.Native.Nat.{◌+◌, ◌≤◌}
-use mathlib.Core.Path.{◌≡◌, ap}
-use borrow.Author.Rules.{rules}
-use native.Mathlib.Omega.{arith}
+use mathlib.Core.Path.{◌≡◌}
 use lib.ListN.{length}
 use Rattle.blif.specs.Scan.{name_at}
-use Rattle.blif.proofs.Walking.{name-length-most}
 use Rattle.scan.specs.Steps.{left}
-use Rattle.scan.proofs.NameBytes.{left-none, left-next, ahead, ahead-falls}
+use Rattle.scan.proofs.NameBytes.{ahead}
 use Rattle.scan.proofs.name.name_length.Given as goal
 
 abbrev pub invariant-loop-p : goal.invariant-loop-p

@@ -1,11 +1,8 @@
 -- `name::name_next` meets its contract.
-use Prim.Native.Nat.{◌+◌, ◌-◌, ◌≤◌, ◌<◌}
-use mathlib.Core.Path.{◌≡◌, refl, sym, ◌∙◌}
-use borrow.Author.Rules.{rules}
-use borrow.Author.Tests.{not-true, not-false}
+use Prim.Native.Nat.{◌-◌, ◌≤◌, ◌<◌}
+use mathlib.Core.Path.{refl, sym, ◌∙◌}
 use native.Mathlib.Omega.{arith}
 use lib.ListN.{length}
-use Rattle.blif.specs.Scan.{name_at}
 use Rattle.scan.proofs.NameBytes.{name-joins, name-ends, name-past, name-byte}
 use Rattle.scan.proofs.name.name_next.Goals as goal
 

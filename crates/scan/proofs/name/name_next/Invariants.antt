@@ -1,11 +1,7 @@
-use Prim.Native.Nat.{◌+◌, ◌-◌, ◌≤◌, ◌<◌}
-use mathlib.Core.Path.{◌≡◌, refl, sym, ◌∙◌}
-use borrow.Author.Rules.{rules}
-use borrow.Author.Tests.{not-true, not-false}
-use native.Mathlib.Omega.{arith}
+use Prim.Native.Nat.{◌+◌, ◌-◌, ◌≤◌}
+use mathlib.Core.Path.{◌≡◌}
 use lib.ListN.{length}
 use Rattle.blif.specs.Scan.{name_at}
-use Rattle.scan.proofs.NameBytes.{name-joins, name-ends, name-past, name-byte}
 use Rattle.scan.proofs.name.name_next.Given as goal
 
 abbrev pub invariant-loop-at : goal.invariant-loop-at

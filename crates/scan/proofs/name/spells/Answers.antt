@@ -1,14 +1,12 @@
 -- `name::spells` meets its contract: what is left of the name compares with what is left of the word as the name does with the word.
-use Prim.Native.Nat.{◌≤◌, ◌<◌}
-use mathlib.Core.Path.{◌≡◌, sym, ap, ◌∙◌}
-use borrow.Author.Rules.{rules}
+use Prim.Native.Nat.{◌<◌}
+use mathlib.Core.Path.{sym, ap, ◌∙◌}
 use native.Mathlib.Omega.{arith}
 use lib.ListN.{length, drop, drop_of_length-le}
 use Rattle.maps.specs.Lists.{equal}
-use Rattle.blif.specs.Scan.{name_at}
 use Rattle.blif.proofs.Positions.{at-cons}
 use Rattle.scan.specs.Steps.{left}
-use Rattle.scan.proofs.NameBytes.{left-none, left-some, left-next, ahead, ahead-falls}
+use Rattle.scan.proofs.NameBytes.{left-none, left-some, left-next, ahead-falls}
 use Rattle.scan.proofs.Comparing.{right-ended, heads-differ, heads-same, word-ended}
 use Rattle.scan.proofs.name.spells.Goals as goal
 

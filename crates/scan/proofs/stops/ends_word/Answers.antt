@@ -1,5 +1,4 @@
 -- `stops::ends_word` meets its contract.
-use borrow.Author.Rules.{rules}
 use mathlib.Core.Path.{sym, ◌∙◌}
 use Rattle.blif.specs.Words.{blank}
 use Rattle.blif.specs.Scan.{ends_line}

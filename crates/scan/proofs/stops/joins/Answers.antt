@@ -1,5 +1,4 @@
 -- `stops::joins` meets its contract.
-use borrow.Author.Rules.{rules}
 use Rattle.scan.proofs.Stepping.{not-slash, slash-end, slash-more}
 use Rattle.scan.proofs.stops.joins.Goals as goal
 

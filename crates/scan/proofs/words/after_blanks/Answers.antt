@@ -1,12 +1,12 @@
 -- `words::after_blanks` meets its contract: what is left to find from the position is what is to be found from the start.
-use Prim.Native.Nat.{◌+◌, ◌-◌, ◌≤◌}
-use mathlib.Core.Path.{◌≡◌, refl, sym, ◌∙◌}
+use Prim.Native.Nat.{◌-◌, ◌≤◌}
+use mathlib.Core.Path.{refl, sym, ◌∙◌}
 use native.Mathlib.Omega.{arith}
 use borrow.Author.Rules.{rules}
-use lib.ListN.{length, drop, drop_of_length-le}
+use lib.ListN.{length, drop_of_length-le}
 use Rattle.blif.proofs.Positions.{from_end}
 use Rattle.scan.proofs.Stepping.{turn-stays, turn-goes}
-use Rattle.blif.specs.Scan.{from, ends_blanks}
+use Rattle.blif.specs.Scan.{ends_blanks}
 use Rattle.scan.proofs.words.after_blanks.Goals as goal
 
 pub loop-at-init : goal.loop-at-init

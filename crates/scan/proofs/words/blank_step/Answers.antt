@@ -1,5 +1,4 @@
 -- `words::blank_step` meets its contract.
-use borrow.Author.Rules.{rules}
 use mathlib.Core.Path.{sym, ap, ◌∙◌}
 use mathlib.Core.Bool.{not}
 use Rattle.scan.proofs.Stepping.{step-join, step-on, step-stop}

@@ -1,11 +1,8 @@
 -- `words::count_words` meets its contract: the words counted and those from the position on are those from the start.
-use Prim.Native.Nat.{◌+◌, ◌-◌, ◌≤◌, ◌<◌}
-use mathlib.Core.Path.{◌≡◌, sym, ◌∙◌}
-use borrow.Author.Rules.{rules}
+use Prim.Native.Nat.{◌-◌, ◌≤◌, ◌<◌}
+use mathlib.Core.Path.{sym, ◌∙◌}
 use native.Mathlib.Omega.{arith}
-use lib.ListN.{length, drop}
-use Rattle.blif.specs.Scan.{ends_blanks, words_at}
-use Rattle.blif.proofs.Wording.{Stopped}
+use lib.ListN.{length}
 use Rattle.scan.proofs.Counting.{landed, same_count, one_more, none_here, none-past}
 use Rattle.scan.proofs.words.count_words.Goals as goal
 

@@ -1,11 +1,8 @@
-use Prim.Native.Nat.{◌+◌, ◌-◌, ◌≤◌, ◌<◌}
-use mathlib.Core.Path.{◌≡◌, sym, ◌∙◌}
-use borrow.Author.Rules.{rules}
-use native.Mathlib.Omega.{arith}
+use Prim.Native.Nat.{◌+◌, ◌-◌, ◌≤◌}
+use mathlib.Core.Path.{◌≡◌}
 use lib.ListN.{length, drop}
 use Rattle.blif.specs.Scan.{ends_blanks, words_at}
 use Rattle.blif.proofs.Wording.{Stopped}
-use Rattle.scan.proofs.Counting.{landed, same_count, one_more, none_here, none-past}
 use Rattle.scan.proofs.words.count_words.Given as goal
 
 abbrev pub invariant-loop-at : goal.invariant-loop-at

@@ -1,5 +1,4 @@
 -- `words::word_step` meets its contract.
-use borrow.Author.Rules.{rules}
 use mathlib.Core.Path.{sym, ◌∙◌}
 use Rattle.scan.proofs.Stepping.{step-join, step-on, step-stop}
 use Rattle.scan.proofs.words.word_step.Goals as goal

@@ -1,5 +1,4 @@
 -- `labels::least_labels` meets its contract.
-use borrow.Author.Rules.{rules}
 use Rattle.schedule.proofs.Rounds.{labels-end}
 use Rattle.schedule.proofs.labels.least_labels.Goals as goal
 

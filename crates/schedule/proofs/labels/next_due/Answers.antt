@@ -1,5 +1,4 @@
 -- `labels::next_due` meets its contract.
-use borrow.Author.Rules.{rules}
 use native.Mathlib.Omega.{arith}
 use Rattle.schedule.proofs.labels.next_due.Goals as goal
 

@@ -1,15 +1,10 @@
-use borrow.Author.Rules.{rules}
-use borrow.Author.Tests.{eqb-true, eqb-false, not-true, not-false}
-use native.Mathlib.Omega.{arith}
 use Prim.Native.Nat.{ℕ, ◌-◌, ◌≤◌}
-use mathlib.Core.Path.{sym, ◌∙◌}
 use Rattle.maps.specs.Sheet.{Sheet}
 use Rattle.relax.specs.Settle.{Pass}
 use Rattle.bound.specs.Lookup.{label_in}
 use Rattle.bound.specs.Going.{Going}
-use Rattle.bound.proofs.Safety.{few-differences, summed-all}
 use Rattle.schedule.specs.Round.{steps_in, rounds_most}
-use Rattle.schedule.proofs.Rounds.{Few, few-left, few-none, round-ends, round-floats, round-sweepable, round-going, round-more, round-fits, round-tested}
+use Rattle.schedule.proofs.Rounds.{Few}
 use Rattle.schedule.proofs.labels.relax.Given as goal
 
 abbrev pub invariant-loop-steps : goal.invariant-loop-steps

@@ -1,5 +1,4 @@
 -- `labels::resume` meets its contract.
-use borrow.Author.Rules.{rules}
 use Rattle.bound.proofs.Safety.{few-differences, targets}
 use Rattle.schedule.proofs.Starts.{resume-going}
 use Rattle.schedule.proofs.labels.resume.Goals as goal

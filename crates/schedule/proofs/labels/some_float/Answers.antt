@@ -1,5 +1,4 @@
 -- `labels::some_float` meets its contract.
-use borrow.Author.Rules.{rules}
 use Rattle.bound.proofs.Safety.{few-nodes, few-differences, graph-falls, soon-all, summed-all}
 use Rattle.schedule.proofs.Rounds.{shift_small}
 use Rattle.schedule.proofs.labels.some_float.Goals as goal

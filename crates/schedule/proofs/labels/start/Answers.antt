@@ -1,6 +1,6 @@
 -- `labels::start` meets its contract. The loop's invariant: the nodes below v have their first labels.
 use borrow.Author.Rules.{rules}
-use Prim.Native.Nat.{ℕ, ◌-◌, ◌≤◌, ◌<◌}
+use Prim.Native.Nat.{ℕ, ◌-◌, ◌<◌}
 use mathlib.Core.Path.{◌≡◌, refl, subst, ap, ◌∙◌}
 use native.Mathlib.Omega.{arith}
 use Rattle.maps.specs.Label.{Label}

@@ -1,10 +1,6 @@
-use borrow.Author.Rules.{rules}
-use Prim.Native.Nat.{ℕ, ◌-◌, ◌≤◌, ◌<◌}
-use mathlib.Core.Path.{◌≡◌, refl, subst, ap, ◌∙◌}
-use native.Mathlib.Omega.{arith}
-use Rattle.maps.specs.Label.{Label}
+use Prim.Native.Nat.{◌-◌, ◌≤◌}
+use mathlib.Core.Path.{◌≡◌}
 use Rattle.schedule.specs.Round.{First}
-use Rattle.schedule.proofs.Starts.{first-none, first_more}
 use Rattle.schedule.proofs.labels.start.Given as goal
 
 abbrev pub invariant-loop-v : goal.invariant-loop-v

@@ -1,5 +1,4 @@
 -- `labels::turn_after` meets its contract.
-use borrow.Author.Rules.{rules}
 use Rattle.schedule.specs.Round.{was-late, was-stopped, was-last, goes_on}
 use Rattle.schedule.proofs.labels.turn_after.Goals as goal
 

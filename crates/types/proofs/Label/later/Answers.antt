@@ -1,5 +1,4 @@
 -- `types::Label::later` meets its contract.
-use borrow.Author.Rules.{rules}
 use Rattle.types.specs.Code.{label_of}
 use Rattle.types.proofs.LabelLaws.{later-taken, later-left}
 use Rattle.types.proofs.Label.later.Goals as goal

@@ -1,6 +1,5 @@
 -- `types::Label::next_step` meets its contract.
 use mathlib.Core.Path.{refl}
-use borrow.Author.Rules.{rules}
 use Rattle.maps.proofs.Fix.{label-path}
 use Rattle.types.proofs.Label.next_step.Goals as goal
 
