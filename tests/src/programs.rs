@@ -12,10 +12,10 @@ pub fn root() -> &'static Path {
     Path::new(env!("CARGO_MANIFEST_DIR")).parent().unwrap()
 }
 
-/// A program, which `rt check` builds.
+/// A program, which `.ci/run` builds.
 pub fn program(name: &str) -> PathBuf {
     let path = root().join("target/bin").join(name);
-    assert!(path.exists(), "there is no {}: `rt check {name}` builds it", path.display());
+    assert!(path.exists(), "there is no {}: `.ci/run` builds it", path.display());
     path
 }
 
