@@ -93,7 +93,7 @@ fn print_first<W: Write>(out: &mut W, bytes: &[u8], n: usize) -> io::Result<()> 
     Ok(())
 }
 
-// Prints the line of a refusal: number, then place; the number.
+// Prints the line of a refusal: number, then place; the number. An error is the writer's, and leaves it with what it took.
 pub fn print_refusal<W: Write>(out: &mut W, why: Refusal) -> io::Result<u32>
     ensures number { IfOk result (λ n. n ≡ number_of why) }
     ensures line { OnOk result (Appends (W.contents out.old) (W.contents out.new)
@@ -105,7 +105,7 @@ pub fn print_refusal<W: Write>(out: &mut W, why: Refusal) -> io::Result<u32>
     Ok(number)
 }
 
-// Plans a sheet and prints what came of it, the listing or the line of the refusal; its number.
+// Plans a sheet and prints what came of it, the listing or the line of the refusal; its number. An error is the writer's, and leaves it with what it took.
 pub fn report<W: Write>(out: &mut W, sheet: &[u8]) -> io::Result<u32>
     ensures { IfOk result (λ n. n ≡ outcome_number (outcome sheet.now 8192)) }
 {
