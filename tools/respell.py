@@ -3,8 +3,9 @@
 
 usage: python3 tools/respell.py [--tell] [FOLDER]     (the top of the repository, where none is named)
 
-It goes by text, over the .antt and .rt files below crates/, and is run once, as port.py is. A word that begins with a small letter and has a capital after a small letter or
-a digit is turned (planLatency becomes plan_latency), as is each part of a name whose parts a dash joins. Names of the library's sources are left.
+It goes by text, over the .antt and .rt files below crates/, and is run once, as port.py is. A word that begins with a small letter and has a capital
+after a small letter or a digit is turned (planLatency becomes plan_latency), as is each part of a name whose parts a dash joins. Names of the
+library's sources are left.
 --tell writes nothing and prints each name with what it becomes, and where two names of one file fall together.
 """
 import os

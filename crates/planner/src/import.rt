@@ -1,4 +1,4 @@
-// The call that imports a BLIF text, for C.
+// The call that imports a BLIF text.
 ghost use Rattle.std.specs.Prelude.{length};
 ghost use Rattle.out_bytes.specs.Outcome.{Answered};
 ghost use Rattle.blif.specs.Limits.{caller};

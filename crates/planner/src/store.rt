@@ -1,4 +1,4 @@
-// The call that writes a sheet, for C.
+// The call that writes a sheet.
 ghost use Rattle.std.specs.Prelude.{length};
 ghost use Rattle.maps.specs.Write.{writing};
 ghost use Rattle.out_bytes.specs.Outcome.{Answered};

@@ -1,4 +1,4 @@
-// The proved parts below the planner, each as a call for C and Rust: reading a sheet, and questions about the cuts of a node.
+// The proved parts below the planner, each as a call: reading a sheet, and questions about the cuts of a node.
 #![tactic(auto)]
 
 mod cuts;

@@ -105,7 +105,8 @@ pub fn print_refusal<W: Write>(out: &mut W, why: Refusal) -> io::Result<u32>
     Ok(number)
 }
 
-// Plans a sheet and prints what came of it, the listing or the line of the refusal; its number. An error is the writer's, and leaves it with what it took.
+// Plans a sheet and prints what came of it, the listing or the line of the refusal; its number. An error is the
+// writer's, and leaves it with what it took.
 pub fn report<W: Write>(out: &mut W, sheet: &[u8]) -> io::Result<u32>
     ensures { IfOk result (λ n. n ≡ outcome_number (outcome sheet.now 8192)) }
 {
