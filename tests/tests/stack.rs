@@ -4,7 +4,7 @@
 use maps_tests::blif::Caller;
 use maps_tests::header::defined;
 use maps_tests::library::{import, plan, write};
-use maps_tests::limits::{fields, H, N};
+use maps_tests::limits::{H, N};
 use maps_tests::made::{chain, greatest, greatest_with, input, numbers, spelled, table};
 use maps_tests::models::abc;
 use maps_tests::programs::root;
@@ -17,29 +17,26 @@ use std::process::Command;
 /// The exported calls.
 const CALLS: [&str; 3] = ["maps_plan", "maps_write_rows", "maps_import"];
 
-/// Ids of nodes, and operands of one.
+/// Ids of nodes.
 const NODES: u64 = N.1 as u64;
-const OPERANDS: u64 = fields(1, 1).operands.1 as u64;
 
 /// The recursive functions, by crate and name, with how often each can be active at once.
 ///
-/// The cone walk (crates/cone): `visit` of u goes on only where u's byte of `part` is 0, and sets it, so it goes on once for each node; one more
-/// may be active, which returns at once. `visit_operands` of a node begins once, from `visit` or the walk's start, and calls itself with the next
-/// operand, so that for each node it is active once for each operand and once past the last.
+/// The cone walk (crates/cone): `visit` of u goes on only where u is not met in `part`, and sets that it is, so it goes on once for each node; one
+/// more may be active, which returns at once. `visit_operands` of a node begins once, from `visit` or the walk's start.
 ///
 /// The search (crates/flow): `expand` of p goes on only where `seen[p]` is 0, and sets it: once for each node, and one more that returns at once.
-/// `scan` begins once in each `expand` and calls itself with the next operand. An `enter` that is not the last call has called an `expand`, so
-/// there is at most one more of it.
+/// `scan` begins once in each `expand` that goes on. An `enter` that is not the last call has called an `expand`, so there is at most one more of it.
 ///
 /// The sort of the words of a line (crates/distinct): `sort` of n words calls itself for each half of them and returns at once where n is below 2. A
 /// text has at most 32,768 words, 2 to the power of 15, so at most 16 of it are active.
 ///
 /// A compiler that inlines some of them, or makes a loop of a last call, leaves fewer frames of each, never more.
 const RECURSIVE: [(&str, &str, u64); 6] = [
-    ("cone", "visit_operands", NODES * (OPERANDS + 1)),
+    ("cone", "visit_operands", NODES),
     ("cone", "visit", NODES + 1),
     ("flow", "expand", NODES + 1),
-    ("flow", "scan", NODES * (OPERANDS + 1)),
+    ("flow", "scan", NODES),
     ("flow", "enter", NODES + 2),
     ("distinct", "sort", 16),
 ];
@@ -129,7 +126,7 @@ fn functions(text: &str) -> BTreeMap<String, Function> {
             assert!(operation != "call" || !operands.starts_with('*'), "{name} calls through a pointer: {instruction}");
             // A target inside a function has an offset in it, and is no call; one without is its beginning.
             if let Some((_, target)) = operands.split_once('<').filter(|_| jumps) {
-                let target = target.trim_end_matches('>');
+                let target = target.strip_suffix('>').unwrap_or(target);
                 if !target.contains("+0x") && (operation == "call" || target != name) {
                     function.calls.insert(target.to_string());
                 }
@@ -168,11 +165,13 @@ fn reached<'a>(all: &'a BTreeMap<String, Function>, from: &'a str) -> BTreeSet<&
     met
 }
 
-/// How often a function that can reach itself is active at once. A name is a path, or has each of its words behind the count of its letters.
+/// How often a function that can reach itself is active at once. A name is a path, or has each of its words behind the count of its letters; after the
+/// path of a generic function stand its types.
 fn activations(name: &str) -> u64 {
+    let path = name.split("::<").next().unwrap_or(name);
     let is = |in_crate: &str, function: &str| {
         let counted = |word: &str| name.contains(&format!("{}{word}", word.len()));
-        name.starts_with(&format!("{in_crate}::")) && name.ends_with(&format!("::{function}")) || counted(in_crate) && counted(function)
+        path.starts_with(&format!("{in_crate}::")) && path.ends_with(&format!("::{function}")) || counted(in_crate) && counted(function)
     };
     let known = RECURSIVE.iter().find(|(in_crate, function, _)| is(in_crate, function));
     known.unwrap_or_else(|| panic!("{name} is recursive, and this test has no bound for it")).2

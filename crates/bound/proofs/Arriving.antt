@@ -7,11 +7,10 @@ use mathlib.Core.Logic.{◌⊎◌, inl, inr}
 use native.Mathlib.Omega.{arith}
 use native.Mathlib.Nat.{mod-lt}
 use lib.Dec.{leb}
-use borrow.Author.Tests.{eq-eqb, ne_eqb}
-use Rattle.maps.specs.Label.{Label, label, leq, later, plus, ready, ◌≼◌}
-use Rattle.maps.specs.Sheet.{Window}
+use borrow.Author.Tests.{eq-eqb}
+use Rattle.maps.specs.Label.{Label, label, later, plus, ready, ◌≼◌}
 use Rattle.maps.specs.Window.{between, next_open, open_label}
-use Rattle.maps.proofs.Order.{≼_refl, ≼_trans, leq-true, ≼-leq, leq-decides, later-is, later-left, later-right, ready-step}
+use Rattle.maps.proofs.Order.{≼_trans, later-is, later-left, later-right, ready-step}
 use Rattle.maps.proofs.Windows.{code_here}
 use Rattle.maps.proofs.Over.{last_or}
 use Rattle.maps.proofs.Fix.{label-path}
@@ -50,58 +49,11 @@ arrival-small graph steps levels top delay u soon =
       ready-step (latency_in graph u) (clock_in graph u) (label_in steps levels u),
     )
 
--- a label where every step is open, one in an open step, and one in a closed step
+-- a label where every step is open
 pub open-whole : (p f t d : ℕ) (a : Label) → 0 < p → f ≡ 0 → t ≡ p → a ≡ open_label p (between 0 f t) d a
 open-whole p f t d a l e h =
     let n = code_here p 0 f t a.step (omega arith) (omega (arith, mod-lt a.step l)) in
     sym (rw (eq-eqb (next_open p (between 0 f t) a.step) a.step (sym n)))
-
-pub open_kept : (p : ℕ) (w : Window) (d n : ℕ) (a : Label) → n ≡ next_open p w a.step → n ≡ a.step → a ≡ open_label p w d a
-open_kept p w d n a e h = sym (rw (eq-eqb (next_open p w a.step) a.step (sym e ∙ h)))
-
-pub open-moved : (p : ℕ) (w : Window) (d n : ℕ) (a : Label) → n ≡ next_open p w a.step → (n ≡ a.step → ⊥) → label n d ≡ open_label p w d a
-open-moved p w d n a e f = ap (λ (s : ℕ). label s d) e ∙ sym (rw (ne_eqb (next_open p w a.step) a.step (λ q. f (e ∙ q))))
-
--- the least level of step s by which a has come
-module _ (a : Label) (s top : ℕ) where
-  pub level-first : (t : Bool) → t ≡ leq a (label s 0) → t ≡ true → Carrying top s 1 (λ j. a) 0
-  level-first t e q =
-      record {
-        most = omega arith;
-        by = λ l m g j h. ≼_trans (leq-true (sym e ∙ q)) (record { steps = omega arith; levels = λ w. omega arith });
-        least = λ l m h. omega arith;
-      }
-
-  -- after the start of the step
-  past : (b : Label) (t : Bool) → t ≡ leq a b → t ≡ false → (b ≼ a) × (a ≼ b → ⊥)
-  past b t e q = go (leq-decides a b)
-    where
-      no_le : (leq a b ≡ true) → ⊥
-      no_le p = let z : ◌≡◌ {A = ℕ} 0 1 = cc in omega arith
-
-      go : ((leq a b ≡ true) × (a ≼ b)) ⊎ ((leq a b ≡ false) × (b ≼ a)) → (b ≼ a) × (a ≼ b → ⊥)
-      go (inl h) = absurd (no_le h.0)
-      go (inr h) = (h.1, λ w. no_le (≼-leq w))
-
-  pub level-own : (t : Bool) → t ≡ leq a (label s 0) → t ≡ false → (r : Bool) → r ≡ leq a (label s top) → r ≡ true → Carrying top s 1 (λ j. a) a.level
-  level-own t e q r f p =
-      let h : a ≼ label s top = leq-true (sym f ∙ p) in
-      let g : label s 0 ≼ a = (past (label s 0) t e q).0 in
-      let same : a.step ≡ s = omega (arith, h.steps, g.steps) in
-      record {
-        most = omega (arith, h.levels (omega arith));
-        by = λ l m k j w. record { steps = omega arith; levels = λ z. k };
-        least = λ l m w. (w 0 (omega arith)).levels (omega arith);
-      }
-
-  pub level-past : (r : Bool) → r ≡ leq a (label s top) → r ≡ false → Carrying top s 1 (λ j. a) (top + 1)
-  level-past r f p =
-      record {
-        most = omega arith;
-        by = λ l m k j w. absurd (omega arith);
-        least = λ l m w.
-            absurd ((past (label s top) r f p).1 (≼_trans (w 0 (omega arith)) (record { steps = omega arith; levels = λ z. m })));
-      }
 
 -- one more label
 pub carrying-none : (top s : ℕ) (a : ℕ → Label) → Carrying top s 0 a 0
@@ -122,9 +74,6 @@ carrying-more top s count a r x q h g e =
 
 -- the latest of a label and the operands' arrivals, an operand at a time
 module _ (graph steps levels : List ℕ) (v top : ℕ) (a : Label) where
-  pub latest-none : Latest graph steps levels v top 0 a a
-  latest-none = record { from = ≼_refl; all = λ j h. absurd (omega arith); one = inl refl }
-
   pub latest-more : (count : ℕ) (r x q : Label) (delay u : ℕ) → Latest graph steps levels v top count a r → delay ≡ delay_in graph v → u ≡ operand_in graph v count
       → x ≡ arrival_in graph steps levels top delay u → q ≡ later r x → Latest graph steps levels v top (count + 1) a q
   latest-more count r x q delay u h d o c p =

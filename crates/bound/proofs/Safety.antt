@@ -9,7 +9,7 @@ use Rattle.maps.specs.WellFormed.{WellDifference}
 use Rattle.maps.proofs.Member.{All-get, index-mem}
 use Rattle.rows.specs.Table.{latency_in, clock_in, delay_in, to_in, no_difference, difference_at, Falling}
 use Rattle.rows.specs.declared.Header as R
-use Rattle.rows.proofs.Tables.{falling}
+use Rattle.rows.proofs.SheetTables.{falling}
 use Rattle.relax.specs.Guard.{Kept}
 use Rattle.bound.specs.Lookup.{Soon}
 use Rattle.bound.specs.Bound.{Summed, HoldsAt}

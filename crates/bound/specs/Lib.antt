@@ -1,3 +1,4 @@
 pub mod Lookup
 pub mod Bound
 pub mod Going
+pub mod Sought

@@ -7,9 +7,10 @@ ghost use Rattle.relax.specs.Settle.{Asks};
 ghost use Rattle.bound.specs.Lookup.{label_in, Linked, Heeding, Soon, step_limit};
 ghost use Rattle.bound.specs.Bound.{Greatest, ready_step, Into, push_of, Summed};
 ghost use Rattle.bound.specs.Going.{Bounding, Based};
+ghost use Rattle.bound.specs.Sought.{of_search};
 
-use crate::arrive::{Levels, Steps, label_of, ready_step, step_of};
-use rows::{Differences, Graph, Header, count_in, delay_in, difference_in, operand_in};
+use crate::arrive::Labels;
+use rows::{Differences, Graph, Header, Tables, count_in, delay_in, difference_in, operand_in};
 use types::{Label, Step};
 
 // Puts difference i at the head of its target's list.
@@ -20,11 +21,9 @@ pub fn link_one(differences: &Differences, first: &mut [u32; 256], next: &mut [u
     ensures linked_2 { Linked differences.now (i + 1) first.new next.new }
     ensures first_len_2 { (length first.new ≡ 256) × (length next.new ≡ 1024) }
 {
-    let difference = difference_in(differences, i);
-    let to = difference.to;
-    let head = first[to as usize];
-    next[i as usize] = head;
-    first[to as usize] = i + 1;
+    let to = difference_in(differences, i).to as usize;
+    next[i as usize] = first[to];
+    first[to] = i + 1;
 }
 
 // Lists the differences by their target: `first[v]`, then `next` of each, counted from 1; 0 ends a list.
@@ -35,110 +34,86 @@ pub fn link(differences: &Differences, first: &mut [u32; 256], next: &mut [u32; 
 {
     *first = [0; 256];
     *next = [0; 1024];
-    let mut i: u32 = 0;
-    while i < m {
+    for i in 0..m {
         link_one(differences, first, next, i);
-        i += 1;
     }
 }
 
 // The latest of s and the ready steps of v's operands.
-pub fn after_operands(graph: &Graph, steps: &Steps, v: u32, s: Step) -> Step
+pub fn after_operands(graph: &Graph, labels: &Labels, v: u32, s: Step) -> Step
     requires v_bound { v < 256 }
     requires falling { Falling graph.now }
-    requires by_index { (u : ℕ) → u < v → Soon graph.now steps.now u }
-    ensures { Greatest s.0 (λ j. j < count_in graph.now v) (ready_step graph.now steps.now v) result.0 }
+    requires by_index { (u : ℕ) → u < v → Soon graph.now labels.now.steps u }
+    ensures { Greatest s.0 (λ j. j < count_in graph.now v) (ready_step graph.now labels.now.steps v) result.0 }
 {
-    let count = count_in(graph, v);
     let mut most = s;
-    let mut j: u32 = 0;
-    while j < count {
+    for j in 0..count_in(graph, v) {
         let u = operand_in(graph, v, j);
-        most = most.later(ready_step(graph, steps, u));
-        j += 1;
+        most = most.later(labels.ready_step(graph, u));
     }
     most
 }
 
 // The later of s and the step that difference i asks of its target.
-pub fn pushed(differences: &Differences, steps: &Steps, i: u32, s: Step) -> Step
+pub fn pushed(differences: &Differences, labels: &Labels, i: u32, s: Step) -> Step
     requires i_bound { i < 1024 }
-    requires summed { Summed differences.now steps.now i }
-    ensures { result.0 ≡ max s.0 (push_of differences.now steps.now i) }
+    requires summed { Summed differences.now labels.now.steps i }
+    ensures { result.0 ≡ max s.0 (push_of differences.now labels.now.steps i) }
 {
     let difference = difference_in(differences, i);
-    let plus = difference.plus;
-    let minus = difference.minus;
-    let own = step_of(steps, difference.from);
-    let ahead = own.0 + plus;
-    if ahead <= minus {
+    let ahead = labels.step_of(difference.from).0 + difference.plus;
+    if ahead <= difference.minus {
         return s;
     }
-    s.later(Step(ahead - minus))
+    s.later(Step(ahead - difference.minus))
 }
 
-// The latest of s and the steps that the differences in the list of v ask for.
-pub fn after_differences(
-    differences: &Differences,
-    first: &[u32; 256],
-    next: &[u32; 1024],
-    steps: &Steps,
-    m: u32,
-    v: u32,
-    s: Step,
-) -> Step
-    requires v_bound { (v < 256) × (m ≤ 1024) }
-    requires heeding { Heeding differences.now m first.now next.now }
-    requires by_index { (i : ℕ) → i < m → Summed differences.now steps.now i }
-    ensures { Greatest s.0 (Into differences.now first.now m v) (push_of differences.now steps.now) result.0 }
-{
-    let mut most = s;
-    let mut e = first[v as usize];
-    while e > 0 {
-        most = pushed(differences, steps, e - 1, most);
-        e = next[e as usize - 1];
+// What labels are sought for: the tables of a sheet within limits, with the lists of its differences by target: `first[v]`, then `next` of each, counted from 1;
+// 0 ends a list.
+#[derive(Clone, Copy)]
+pub struct Search<'a> {
+    pub tables: &'a Tables,
+    pub limits: Header,
+    pub first: &'a [u32; 256],
+    pub next: &'a [u32; 1024],
+}
+
+impl Search<'_> {
+    // The latest of s and the steps that the differences in the list of v ask for.
+    pub fn after_differences(&self, labels: &Labels, v: u32, s: Step) -> Step
+        requires v_bound { (v < 256) × (self.now.limits.differences ≤ 1024) }
+        requires heeding { Heeding self.now.tables.now.differences self.now.limits.differences self.now.first.now self.now.next.now }
+        requires by_index { (i : ℕ) → i < self.now.limits.differences → Summed self.now.tables.now.differences labels.now.steps i }
+        ensures { Greatest s.0 (Into self.now.tables.now.differences self.now.first.now self.now.limits.differences v) (push_of self.now.tables.now.differences labels.now.steps) result.0 }
+    {
+        let mut most = s;
+        let mut e = self.first[v as usize];
+        while e > 0 {
+            most = pushed(&self.tables.differences, labels, e - 1, most);
+            e = self.next[e as usize - 1];
+        }
+        most
     }
-    most
-}
 
-// The least step of v that its own label, its operands and the differences in its list allow.
-pub fn step_asked(
-    graph: &Graph,
-    differences: &Differences,
-    limits: Header,
-    first: &[u32; 256],
-    next: &[u32; 1024],
-    steps: &Steps,
-    v: u32,
-) -> Step
-    requires { (S : Sheet) × (levels : List ℕ) × Bounding S graph.now differences.now limits first.now next.now steps.now levels v }
-    ensures asks { (S : Sheet) (levels : List ℕ) → Bounding S graph.now differences.now limits first.now next.now steps.now levels v
-        → Asks S (label_in steps.now levels) v result.0 × (result.0 < step_limit) }
-    ensures by_index { (i : ℕ) → Into differences.now first.now limits.differences v i → push_of differences.now steps.now i ≤ result.0 }
-{
-    let own = step_of(steps, v);
-    let s = after_operands(graph, steps, v, own);
-    after_differences(differences, first, next, steps, limits.differences, v, s)
-}
+    // The least step of v that its own label, its operands and the differences in its list allow.
+    pub fn step_asked(&self, labels: &Labels, v: u32) -> Step
+        requires { (S : Sheet) × (levels : List ℕ) × of_search (Bounding S) self.now labels.now.steps levels v }
+        ensures asks { (S : Sheet) (levels : List ℕ) → of_search (Bounding S) self.now labels.now.steps levels v
+            → Asks S (label_in labels.now.steps levels) v result.0 × (result.0 < step_limit) }
+        ensures by_index { (i : ℕ) → Into self.now.tables.now.differences self.now.first.now self.now.limits.differences v i → push_of self.now.tables.now.differences labels.now.steps i ≤ result.0 }
+    {
+        let s = after_operands(&self.tables.graph, labels, v, labels.step_of(v));
+        self.after_differences(labels, v, s)
+    }
 
-// The later of v's own label and its delay in the step asked.
-pub fn base_label(
-    graph: &Graph,
-    differences: &Differences,
-    limits: Header,
-    first: &[u32; 256],
-    next: &[u32; 1024],
-    steps: &Steps,
-    levels: &Levels,
-    v: u32,
-) -> Label
-    requires { (S : Sheet) × Bounding S graph.now differences.now limits first.now next.now steps.now levels.now v }
-    ensures { (S : Sheet) → Bounding S graph.now differences.now limits first.now next.now steps.now levels.now v
-        → Based S (label_in steps.now levels.now) v (label_of result) }
-{
-    let s = step_asked(graph, differences, limits, first, next, steps, v);
-    let delay = delay_in(graph, v);
-    let asked = Label::at(s, delay);
-    let own = label_of(steps, levels, v);
-    own.later(asked)
+    // The later of v's own label and its delay in the step asked.
+    pub fn base_label(&self, labels: &Labels, v: u32) -> Label
+        requires { (S : Sheet) × of_search (Bounding S) self.now labels.now.steps labels.now.levels v }
+        ensures { (S : Sheet) → of_search (Bounding S) self.now labels.now.steps labels.now.levels v
+            → Based S (label_in labels.now.steps labels.now.levels) v (label_of result) }
+    {
+        let s = self.step_asked(labels, v);
+        let delay = delay_in(&self.tables.graph, v);
+        labels.label_of(v).later(Label::at(s, delay))
+    }
 }

@@ -18,7 +18,9 @@ use Rattle.maps.proofs.Enumerate.{clash}
 use Rattle.rows.specs.Table.{Falling}
 use Rattle.cone.specs.Walk.{marked, ConeInside, Question, FitTest}
 use Rattle.cone.specs.Looks.{looks, leaves_met, Stops, all, wide}
-use Rattle.cone.specs.Part.{part_of, Ended, leaves_below}
+use Rattle.cone.specs.declared.Part.{Part}
+use Rattle.cone.specs.declared.Part.TheVariants.{Unmet, Member, Leaf}
+use Rattle.cone.specs.Part.{part_of, is_leaf, Ended, leaves_below}
 use Rattle.cone.proofs.LeafLaws.{passing-few, met-grows}
 use Rattle.cone.proofs.Visits.{all-met}
 use Rattle.cone.proofs.LookLaws.{members, root-member, marked-member, member_is, looks-low, member-low, looks-closed, looks-read}
@@ -107,7 +109,7 @@ keep-end p v h =
     le_ind (λ n. keep p (below n) ≡ keep p (below v)) refl
     (λ n l e. rw (keep_append p (below n) (n ∷ []), h n l) (append-nil (keep p (below n)) ∙ e))
 
-module _ (S : Sheet) (g marks : List ℕ) (v : ℕ) (falling : Falling g) (low : v < 256) (asked : Question S g marks v) where
+module _ (S : Sheet) (g : List ℕ) (marks : List Bool) (v : ℕ) (falling : Falling g) (low : v < 256) (asked : Question S g marks v) where
   -- operands fall: they do in the table, which holds those of the sheet
   pub reads-fall : (m u : ℕ) → m ≤ v → reads S m u ≡ true → u < m
   reads-fall m u l r =
@@ -167,8 +169,8 @@ module _ (S : Sheet) (g marks : List ℕ) (v : ℕ) (falling : Falling g) (low :
   cut-count = ap length cut-met
 
   -- `part` is the table of the whole walk
-  abbrev Shown : (part : List ℕ) → Type 0
-  Shown part = (u : ℕ) → u < 256 → get_or part u 0 ≡ part_of (marked marks) v looked u
+  abbrev Shown : (part : List Part) → Type 0
+  Shown part = (u : ℕ) → u < 256 → get_or part u Unmet ≡ part_of (marked marks) v looked u
 
   -- the cut's leaves are all below v
   cut_low : cut S cone ≡ keep (λ u. mem u looked && not (marked marks u)) (below v)
@@ -182,19 +184,19 @@ module _ (S : Sheet) (g marks : List ℕ) (v : ℕ) (falling : Falling g) (low :
           go false e = refl
 
   -- so `part` has them
-  cut-listed : (part : List ℕ) → Shown part → cut S cone ≡ leaves_below part v
+  cut-listed : (part : List Part) → Shown part → cut S cone ≡ leaves_below part v
   unfolding leaves_below
-  cut-listed part h = cut_low ∙ keep_same (λ u. mem u looked && not (marked marks u)) (λ u. eqb (get_or part u 0) 2) v two
+  cut-listed part h = cut_low ∙ keep_same (λ u. mem u looked && not (marked marks u)) (λ u. is_leaf (get_or part u Unmet)) v two
     where
-      two : (u : ℕ) → u < v → (mem u looked && not (marked marks u)) ≡ eqb (get_or part u 0) 2
+      two : (u : ℕ) → u < v → (mem u looked && not (marked marks u)) ≡ is_leaf (get_or part u Unmet)
       two u l = rw (h u (omega arith), ne_eqb u v (λ q. omega arith)) (go (mem u looked) (marked marks u))
         where
-          go : (a b : Bool) → (a && not b) ≡ eqb (cond a (cond b 1 2) 0) 2
+          go : (a b : Bool) → (a && not b) ≡ is_leaf (cond a (cond b Member Leaf) Unmet)
           go true true = refl
           go true false = refl
           go false b = refl
 
-  module _ (k : ℕ) (o part : List ℕ) (spare : ℕ) (h : Ended S g (marked marks) v k (looks S (marked marks) v) o part spare) where
+  module _ (k : ℕ) (o : List ℕ) (part : List Part) (spare : ℕ) (h : Ended S g (marked marks) v k (looks S (marked marks) v) o part spare) where
     -- The walk has ended early: the cut has more than k leaves, since so many are among the operands up to there.
     pub fit_wide : spare ≡ 0 → (list : List ℕ) → FitTest S (marked marks) v k (k + 1) list
     fit_wide none list = go h.stops

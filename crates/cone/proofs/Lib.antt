@@ -1,5 +1,6 @@
 mod Listing
 mod LeafLaws
+mod RoomLaws
 pub mod LookLaws
 pub mod Visits
 pub mod Cones

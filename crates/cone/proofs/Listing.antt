@@ -1,47 +1,52 @@
 -- The list of the leaves below a node, turn by turn.
 use Prim.Native.Nat.{ℕ, suc, ◌+◌, ◌≤◌, ◌<◌}
 use mathlib.Core.Path.{◌≡◌, refl, sym, ap, ◌∙◌}
-use mathlib.Core.Bool.{cond}
+use mathlib.Core.Bool.{true, false, cond}
 use mathlib.Core.List.{List, [], ◌∷◌, ◌++◌, append-nil, append_assoc}
 use native.Mathlib.Numerals.{add-one}
 use native.Mathlib.Decide.{le_ind}
 use native.Mathlib.Omega.{arith}
-use lib.Dec.{eqb}
 use lib.ListN.{length, get_or, set, take, length-append, length-take}
 use lib.Seq.{take-suc-set}
-use borrow.Author.Tests.{eq-eqb, ne_eqb}
 use Rattle.maps.specs.Lists.{below}
 use Rattle.maps.proofs.Member.{keep_append}
-use Rattle.cone.specs.Part.{leaves_below}
+use Rattle.cone.specs.declared.Part.{Part}
+use Rattle.cone.specs.declared.Part.TheVariants.{Unmet, Member, Leaf}
+use Rattle.cone.specs.Part.{is_leaf, leaves_below}
 
-module _ (p : List ℕ) where
-  leaves-turn : (i : ℕ) → leaves_below p (suc i) ≡ leaves_below p i ++ cond (eqb (get_or p i 0) 2) (i ∷ []) []
+pub no_leaf : (p : Part) → (p ≡ Leaf → ⊥) → is_leaf p ≡ false
+no_leaf Unmet f = refl
+no_leaf Member f = refl
+no_leaf Leaf f = absurd (f refl)
+
+module _ (p : List Part) where
+  leaves-turn : (i : ℕ) → leaves_below p (suc i) ≡ leaves_below p i ++ cond (is_leaf (get_or p i Unmet)) (i ∷ []) []
   unfolding leaves_below
-  leaves-turn i = keep_append (λ u. eqb (get_or p u 0) 2) (below i) (i ∷ [])
+  leaves-turn i = keep_append (λ u. is_leaf (get_or p u Unmet)) (below i) (i ∷ [])
 
-  leaves-more : (i : ℕ) → get_or p i 0 ≡ 2 → leaves_below p (i + 1) ≡ leaves_below p i ++ (i ∷ [])
-  leaves-more i e = rw (add-one, leaves-turn i, eq-eqb _ _ e)
+  leaves-more : (i : ℕ) → is_leaf (get_or p i Unmet) ≡ true → leaves_below p (i + 1) ≡ leaves_below p i ++ (i ∷ [])
+  leaves-more i e = rw (add-one, leaves-turn i, e)
 
   -- a node that is no leaf adds nothing
-  leaves-same : (i : ℕ) → (get_or p i 0 ≡ 2 → ⊥) → leaves_below p (suc i) ≡ leaves_below p i
-  leaves-same i f = rw (leaves-turn i, ne_eqb _ _ f) (append-nil (leaves_below p i))
+  leaves-same : (i : ℕ) → (is_leaf (get_or p i Unmet) ≡ false) → leaves_below p (suc i) ≡ leaves_below p i
+  leaves-same i f = rw (leaves-turn i, f) (append-nil (leaves_below p i))
 
   -- the list so far: its first n are the leaves below i
   pub listed-none : [] ≡ leaves_below p 0
   unfolding leaves_below
   listed-none = refl
 
-  pub listed_same : (list : List ℕ) (n i : ℕ) → (get_or p i 0 ≡ 2 → ⊥) → take n list ≡ leaves_below p i → take n list ≡ leaves_below p (i + 1)
+  pub listed_same : (list : List ℕ) (n i : ℕ) → (is_leaf (get_or p i Unmet) ≡ false) → take n list ≡ leaves_below p i → take n list ≡ leaves_below p (i + 1)
   listed_same list n i f e = rw add-one (e ∙ sym (leaves-same i f))
 
-  pub listed_more : (list : List ℕ) (n i : ℕ) → n < length list → get_or p i 0 ≡ 2 → take n list ≡ leaves_below p i → take (n + 1) (set list n i) ≡ leaves_below p (i + 1)
+  pub listed_more : (list : List ℕ) (n i : ℕ) → n < length list → is_leaf (get_or p i Unmet) ≡ true → take n list ≡ leaves_below p i → take (n + 1) (set list n i) ≡ leaves_below p (i + 1)
   listed_more list n i l q e = rw (leaves-more i q, add-one, take-suc-set list n i l, e)
 
   leaves-begin : (i v : ℕ) → i ≤ v → (s : List ℕ) × (leaves_below p v ≡ leaves_below p i ++ s)
   leaves-begin i =
       le_ind (λ m. (s : List ℕ) × (leaves_below p m ≡ leaves_below p i ++ s)) ([], sym (append-nil (leaves_below p i)))
       (λ m l h.
-      let more = cond (eqb (get_or p m 0) 2) (m ∷ []) [] in
+      let more = cond (is_leaf (get_or p m Unmet)) (m ∷ []) [] in
       (h.0 ++ more, leaves-turn m ∙ ap (λ (xs : List ℕ). xs ++ more) h.1 ∙ append_assoc (leaves_below p i) h.0 more))
 
   -- no more leaves are below v than below i: they are the same

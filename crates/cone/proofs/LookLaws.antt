@@ -72,6 +72,11 @@ folds-extend f h t (u ∷ us) =
     let b = folds-extend f h (f t u) us in
     (a.0 ++ b.0, b.1 ∙ ap (λ (l : List ℕ). l ++ b.0) a.1 ∙ append_assoc t a.0 b.0)
 
+-- one list after another
+pub folds-on : (f : List ℕ → ℕ → List ℕ) (t us ws : List ℕ) → foldl f t (us ++ ws) ≡ foldl f (foldl f t us) ws
+folds-on f t [] ws = refl
+folds-on f t (u ∷ us) ws = folds-on f (f t u) us ws
+
 -- of two beginnings of a list the longer extends the shorter
 beginning : (a b c d : List ℕ) → a ++ c ≡ b ++ d → length a ≤ length b → (s : List ℕ) × (b ≡ a ++ s)
 beginning [] b c d e l = (b, refl)

@@ -1,4 +1,5 @@
 pub mod Walk
 pub mod Looks
 pub mod Part
+pub mod Room
 mod LookCases

@@ -29,6 +29,10 @@ module _ (S : Sheet) (marked : ℕ → Bool) where
     all : t ≡ whole → leaves_met t ≤ k → Stops k whole t
     wide : (before : List ℕ) (u : ℕ) (rest : List ℕ) → t ≡ before ++ (u ∷ []) → whole ≡ t ++ rest → leaves_met before ≡ k → leaves_met t ≡ k + 1 → Stops k whole t
 
+  -- E holds of how many operands the test of the cut of v looks at
+  abbrev pub Looked : (v k : ℕ) → (E : ℕ → Type 0) → Type 0
+  Looked v k E = (t : List ℕ) × Stops k (looks v) t × E (length t)
+
   -- c is how many operands the test of the cut of v looks at
   pub record LookedAt (v k c : ℕ) : Type 0 where
     pub operands : List ℕ

@@ -1,12 +1,12 @@
 -- The cone of a node inside marked nodes, and what the test of its cut says.
-use Rattle.std.specs.Prelude.{ℕ, ◌+◌, ◌≤◌, ◌<◌, min, ◌≡◌, Bool, true, not, List, ◌⊎◌, eqb, length, get_or, take}
+use Rattle.std.specs.Prelude.{ℕ, ◌+◌, ◌≤◌, ◌<◌, min, ◌≡◌, Bool, true, false, List, ◌⊎◌, length, get_or, take}
 use Rattle.maps.specs.Sheet.{Sheet, size}
 use Rattle.maps.specs.Cut.{reads, logic_node, Cone, cut}
 use Rattle.rows.specs.Table.{Tabled}
 
--- the mark of u is not 0; past the end of the table no node is marked
-abbrev pub marked : (marks : List ℕ) → ℕ → Bool
-marked marks u = not (eqb (get_or marks u 0) 0)
+-- u is marked; past the end of the table no node is
+abbrev pub marked : (marks : List Bool) → ℕ → Bool
+marked marks u = get_or marks u false
 
 -- C is the cone of v inside the marks: v, and every marked node that has a path to v inside C
 pub record ConeInside (S : Sheet) (marked : ℕ → Bool) (v : ℕ) (C : ℕ → Bool) : Type 0 where
@@ -15,7 +15,7 @@ pub record ConeInside (S : Sheet) (marked : ℕ → Bool) (v : ℕ) (C : ℕ →
   pub whole : (m u : ℕ) → C m ≡ true → reads S m u ≡ true → marked u ≡ true → C u ≡ true
 
 -- what the test is asked: v is a logic node of the sheet in the table g, and only logic nodes are marked
-pub record Question (S : Sheet) (g marks : List ℕ) (v : ℕ) : Type 0 where
+pub record Question (S : Sheet) (g : List ℕ) (marks : List Bool) (v : ℕ) : Type 0 where
   pub tabled : Tabled S g
   pub within : v < size S
   pub logic : logic_node S v ≡ true

@@ -1,12 +1,12 @@
 -- The chosen cut of a logic node: what the search answers, and the row that is written.
-use Prim.Native.Nat.{ℕ, ◌≤◌, ◌<◌}
+use Prim.Native.Nat.{ℕ, ◌+◌, ◌≤◌, ◌<◌}
 use mathlib.Core.Path.{◌≡◌, refl, sym, subst, ap, ◌∙◌}
 use mathlib.Core.Bool.{Bool, true}
 use mathlib.Core.List.{List, Memᴰ}
 use native.Mathlib.Omega.{arith}
-use native.Mathlib.Nat.{not-suc-le-zero}
-use lib.ListN.{length, get_or, take, length-take}
+use lib.ListN.{length, take, length-take}
 use lib.Seq.{length-take-le, get_or-take}
+use Rattle.std.specs.Prelude.{Option, Some, None, IfSome, unwrap_or}
 use Rattle.maps.specs.Limits.{leaves_range}
 use Rattle.maps.specs.Lists.{All}
 use Rattle.maps.specs.Label.{Label, earliest, plus, ready, ◌≼◌}
@@ -92,9 +92,14 @@ module _ {S : Sheet} {graph steps levels : List ℕ} {limits : R.Header} (laid :
       }
 
   -- what the search answers is the chosen cut
-  pub picked : (r : ℕ) (numbers : List ℕ) → (r ≤ limits.leaves → Best S may v (take r numbers)) × Fewest S may v limits.leaves r
-      → Picked S L v limits.leaves r numbers
-  picked r numbers h =
+  pub picked : (found : Option ℕ) (numbers : List ℕ) → IfSome found (λ r. Best S may v (take r numbers)) × Fewest S may v limits.leaves (unwrap_or found (limits.leaves + 1))
+      → Picked S L v limits.leaves (unwrap_or found (limits.leaves + 1)) numbers
+  picked None numbers h =
+      let k = laid.carried v l i in
+      let c = cut S k.cone in
+      let least = h.1.least c (allowed c (record { cone = k.cone; is_cone = k.is_cone; is_cut = refl; fits = k.fits }) k.carries) in
+      absurd (omega (arith, least, k.fits, laid.given.leaves))
+  picked (Some r) numbers h =
       let k = laid.carried v l i in
       let c = cut S k.cone in
       let least = h.1.least c (allowed c (record { cone = k.cone; is_cone = k.is_cone; is_cut = refl; fits = k.fits }) k.carries) in
@@ -103,7 +108,7 @@ module _ {S : Sheet} {graph steps levels : List ℕ} {limits : R.Header} (laid :
         few = few;
         chosen =
             sym (chosen-same S (ordered S laid.given.well) L v (take r numbers) i
-            (chosen (take r numbers) (h.0 few) (omega (arith, length-take r numbers, laid.given.leaves))));
+            (chosen (take r numbers) h.0 (omega (arith, length-take r numbers, laid.given.leaves))));
       }
 
   -- its leaves are below the node
@@ -118,11 +123,11 @@ module _ {S : Sheet} {graph steps levels : List ℕ} {limits : R.Header} (laid :
       subst (All (λ u. u < 256)) (sym p.chosen)
       (All-map (λ u (h : u < v). omega (arith, laid.given.well.size.most)) (chosen_cut S L v) chosen-low)
 
--- ids that were found are all kept
-pub count-all : (found k r : ℕ) (numbers : List ℕ) → length numbers ≡ 8 → k ≤ leaves_range.high → SoundCount numbers found k r → found ≤ k → All (λ u. u < 256) (take found numbers) → r ≡ found
-count-all found k r numbers wide six s le ids =
-    let n = length-take-le found numbers (omega arith) in
-    s.all le (λ j l. subst (λ (u : ℕ). u < 256) (get_or-take found numbers j 0 l) (All-get (λ u. u < 256) 0 (take found numbers) ids j (omega arith)))
+  -- the row that holds what was found is the chosen cut
+  pub row-chosen : (found : Option ℕ) (numbers more : List ℕ) → Picked S L v limits.leaves (unwrap_or found (limits.leaves + 1)) numbers
+      → IfSome found (λ n. All (λ u. u < 256) (take n numbers) → row_of more v ≡ take n numbers) → row_of more v ≡ chosen_cut S L v
+  row-chosen None numbers more p h = absurd (omega (arith, p.few))
+  row-chosen (Some n) numbers more p h = h (chosen-ids n numbers p) ∙ p.chosen
 
 -- the kept numbers stand in the row of v
 pub stored_row : {numbers cuts more : List ℕ} {v r : ℕ} → r ≤ leaves_range.high → length numbers ≡ 8 → Stored numbers cuts more v r → row_of more v ≡ take r numbers
@@ -131,6 +136,17 @@ stored_row {numbers} {cuts} {more} {v} {r} few wide s =
     let n = length-take-le r numbers (omega arith) in
     over-is (leaf_of more v) (count_of more v) (take r numbers) (c ∙ sym n)
     (λ j m. let k : j < r = omega arith in s.leaves j k ∙ sym (get_or-take r numbers j 0 k))
+
+-- ids that were found are all kept
+pub row-found : {numbers cuts more : List ℕ} {v r : ℕ} (found : Option ℕ) → IfSome found (λ n. n ≤ leaves_range.high) → length numbers ≡ 8
+    → SoundCount numbers (unwrap_or found (leaves_range.high + 1)) leaves_range.high r → Stored numbers cuts more v r
+    → IfSome found (λ n. All (λ u. u < 256) (take n numbers) → row_of more v ≡ take n numbers)
+row-found None le wide sound s = tt
+row-found {numbers} (Some n) le wide sound s = λ ids.
+    let w = length-take-le n numbers (omega arith) in
+    stored_row (omega (arith, sound.few)) wide s
+    ∙ ap (λ (k : ℕ). take k numbers)
+    (sound.all le (λ j l. subst (λ (u : ℕ). u < 256) (get_or-take n numbers j 0 l) (All-get (λ u. u < 256) 0 (take n numbers) ids j (omega arith))))
 
 pub stored-written : {numbers cuts more : List ℕ} {v found k r : ℕ} → k ≤ leaves_range.high → length more ≡ 2048 → SoundCount numbers found k r → Stored numbers cuts more v r
     → Written v cuts more
@@ -143,7 +159,3 @@ stored-written {numbers} {more = more} {v = v} few new sound s =
       ids = over-all (leaf_of more v) (λ u. u < 256) (count_of more v) (λ j m. let k = s.leaves j (omega arith) in subst (λ (u : ℕ). u < 256) (sym k) (sound.ids j (omega arith)));
       beside = s.beside;
     }
-
--- a count that a loop tests
-pub count_none : {numbers : List ℕ} {found k : ℕ} → (found ≤ k → ((j : ℕ) → j < found → get_or numbers j 0 < 256) → ⊥) → SoundCount numbers found k 0
-count_none h = record { few = omega arith; ids = λ j l. absurd (not-suc-le-zero l); all = λ le ids. absurd (h le ids) }

@@ -1,7 +1,7 @@
 -- Marks and rows of the cover: lists of nodes that are marked, and rows that stay.
 use Prim.Native.Nat.{ℕ, ◌+◌, ◌≤◌, ◌<◌}
 use mathlib.Core.Path.{◌≡◌, refl, sym, subst, ap, ◌∙◌}
-use mathlib.Core.Bool.{Bool, true, false, cond, ◌||◌}
+use mathlib.Core.Bool.{Bool, true, false, ◌||◌}
 use mathlib.Core.List.{List, [], ◌∷◌, ◌++◌, map, map-append}
 use native.Mathlib.Omega.{arith}
 use native.Mathlib.Numerals.{add-one}
@@ -19,27 +19,27 @@ use Rattle.level.proofs.CutRows.{count-beside, leaf-beside}
 use Rattle.cover.specs.Cover.{Rows, row_of}
 use Rattle.cover.specs.Covering.{MarkedAll, Written}
 
-cond-or : (a b : Bool) (x : ℕ) → cond b 1 (cond a 1 x) ≡ cond (a || b) 1 x
-cond-or true true x = refl
-cond-or true false x = refl
-cond-or false b x = refl
+or-both : (a b x : Bool) → (b || (a || x)) ≡ ((a || b) || x)
+or-both true true x = refl
+or-both true false x = refl
+or-both false b x = refl
 
 -- one node is marked
-pub marked-own : (marks : List ℕ) (v : ℕ) → length marks ≡ 256 → v < 256 → MarkedAll (v ∷ []) marks (set marks v 1)
-marked-own marks v w l = record { wide = length-set marks v 1 ∙ w; each = λ u m. go u (eqb u v) refl }
+pub marked-own : (marks : List Bool) (v : ℕ) → length marks ≡ 256 → v < 256 → MarkedAll (v ∷ []) marks (set marks v true)
+marked-own marks v w l = record { wide = length-set marks v true ∙ w; each = λ u m. go u (eqb u v) refl }
   where
-    go : (u : ℕ) (t : Bool) → eqb u v ≡ t → get_or (set marks v 1) u 0 ≡ cond (t || false) 1 (get_or marks u 0)
-    go u true e = ap (λ (i : ℕ). get_or (set marks v 1) i 0) (eqb-true u v e) ∙ get_or-set_same marks v 1 0 (omega arith)
-    go u false e = get_or-set_other marks v u 1 0 (eqb-false u v e)
+    go : (u : ℕ) (t : Bool) → eqb u v ≡ t → get_or (set marks v true) u false ≡ ((t || false) || get_or marks u false)
+    go u true e = ap (λ (i : ℕ). get_or (set marks v true) i false) (eqb-true u v e) ∙ get_or-set_same marks v true false (omega arith)
+    go u false e = get_or-set_other marks v u true false (eqb-false u v e)
 
 -- one list of nodes, then another
-pub marked_append : {a b marks more last : List ℕ} → MarkedAll a marks more → MarkedAll b more last → MarkedAll (a ++ b) marks last
+pub marked_append : {a b : List ℕ} {marks more last : List Bool} → MarkedAll a marks more → MarkedAll b more last → MarkedAll (a ++ b) marks last
 marked_append {a} {b} {marks} g h =
     record {
       wide = h.wide;
       each = λ u l.
-          h.each u l ∙ ap (λ (x : ℕ). cond (mem u b) 1 x) (g.each u l) ∙ cond-or (mem u a) (mem u b) (get_or marks u 0)
-          ∙ ap (λ (t : Bool). cond t 1 (get_or marks u 0)) (sym (mem-append u a b));
+          h.each u l ∙ ap (λ (x : Bool). mem u b || x) (g.each u l) ∙ or-both (mem u a) (mem u b) (get_or marks u false)
+          ∙ ap (λ (t : Bool). t || get_or marks u false) (sym (mem-append u a b));
     }
 
 -- a list made over 0, 1, .. n - 1: by its elements, a property of each, and one element more
@@ -62,29 +62,21 @@ module _ (f : ℕ → ℕ) where
   pub over-more : (j : ℕ) → map f (below (j + 1)) ≡ map f (below j) ++ (f j ∷ [])
   over-more j = ap (λ (k : ℕ). map f (below k)) (add-one j) ∙ map-append f (below j) (j ∷ [])
 
-  module _ {marks : List ℕ} where
-    pub marked-none : length marks ≡ 256 → MarkedAll (map f (below 0)) marks marks
-    marked-none w = record { wide = w; each = λ u l. refl }
-
-    pub marked_more : {more last : List ℕ} (j u : ℕ) → u ≡ f j → MarkedAll (map f (below j)) marks more → MarkedAll (u ∷ []) more last
+  module _ {marks : List Bool} where
+    pub marked_more : {more last : List Bool} (j u : ℕ) → u ≡ f j → MarkedAll (map f (below j)) marks more → MarkedAll (u ∷ []) more last
         → MarkedAll (map f (below (j + 1))) marks last
     marked_more {more} {last} j u e h m =
         subst (λ (p : List ℕ). MarkedAll p marks last) (sym (over-more j)) (marked_append h (subst (λ (u : ℕ). MarkedAll (u ∷ []) more last) e m))
 
 -- what writing the rows rests on, after marks are set and after a row is written
-pub rows-marked : {marks more cuts row : List ℕ} → Rows 256 marks cuts → MarkedAll row marks more → Rows 256 more cuts
-rows-marked {marks} {more} {cuts} {row} h m =
+pub rows-marked : {marks more : List Bool} {cuts row : List ℕ} → Rows 256 marks cuts → MarkedAll row marks more → Rows 256 more cuts
+rows-marked h m =
     record {
       marks-wide = m.wide;
       cuts-wide = h.cuts-wide;
-      bits = λ v l. let e = m.each v l in let b = bit (mem v row) (get_or marks v 0) (h.bits v l) in omega arith;
       few = h.few;
       ids = h.ids;
     }
-  where
-    bit : (t : Bool) (x : ℕ) → x ≤ 1 → cond t 1 x ≤ 1
-    bit true x l = omega arith
-    bit false x l = l
 
 -- a row other than that of v stays
 pub row-beside : (v : ℕ) (cuts more : List ℕ) → Beside v cuts more → (w : ℕ) → (w ≡ v → ⊥) → count_of cuts w ≤ leaves_range.high → row_of more w ≡ row_of cuts w
@@ -93,12 +85,11 @@ row-beside v cuts more b w ne few =
     over-is (leaf_of more w) (count_of more w) (row_of cuts w) (c ∙ sym (length_over (leaf_of cuts w) 0 (count_of cuts w)))
     (λ j m. leaf-beside v cuts more b w ne j (omega arith) ∙ sym (get_d_over (leaf_of cuts w) 0 (count_of cuts w) j (omega arith)))
 
-pub rows_written : {v : ℕ} {marks cuts more : List ℕ} → Rows 256 marks cuts → Written v cuts more → Rows 256 marks more
+pub rows_written : {v : ℕ} {marks : List Bool} {cuts more : List ℕ} → Rows 256 marks cuts → Written v cuts more → Rows 256 marks more
 rows_written {v} {marks} {cuts} {more} h r =
     record {
       marks-wide = h.marks-wide;
       cuts-wide = r.wide;
-      bits = h.bits;
       few = λ w l. few w l (ℕ_discrete w v);
       ids = λ w l. ids w l (ℕ_discrete w v);
     }

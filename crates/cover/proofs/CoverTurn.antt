@@ -6,7 +6,6 @@ use mathlib.Core.List.{List, [], ◌∷◌, ◌++◌, map, Memᴰ}
 use native.Mathlib.Omega.{arith}
 use native.Mathlib.Numerals.{add-one}
 use native.Mathlib.Decide.{ℕ_discrete}
-use lib.Dec.{eqb}
 use lib.ListN.{length, get_or}
 use borrow.Author.Tests.{eq-eqb}
 use Rattle.maps.specs.Lists.{All, mem, below}
@@ -18,10 +17,9 @@ use Rattle.maps.specs.Plan.{leaves_of}
 use Rattle.maps.proofs.Enumerate.{clash}
 use Rattle.maps.proofs.Member.{All-at, All-map, mem-out, mem-append}
 use Rattle.maps.proofs.Planned.{operands-below}
-use Rattle.maps.proofs.RecordLaws.{mark-again}
 use Rattle.rows.specs.Table.{kind_at, count_in, operand_in, Tabled}
 use Rattle.rows.specs.declared.Header as R
-use Rattle.rows.proofs.Tables.{kind-tabled, output-tabled}
+use Rattle.rows.proofs.SheetTables.{kind-tabled, output-tabled}
 use Rattle.bound.specs.Lookup.{labels_in, count_of, leaf_of}
 use Rattle.level.proofs.CutRows.{count-beside, count-blank}
 use Rattle.cover.specs.Cover.{Covered, Rows, operands_of, row_of}
@@ -36,17 +34,6 @@ or-false false false c e = e
 
 row-blank : (cuts : List ℕ) (w : ℕ) → count_of cuts w ≡ 0 → row_of cuts w ≡ []
 row-blank cuts w e = ap (λ (n : ℕ). map (leaf_of cuts w) (below n)) e
-
--- the test whether a node is used, a part at a time
-module _ (a b c : Bool) where
-  pub test-output : a ≡ true → true ≡ (a || (b || c))
-  test-output e = sym (rw e refl)
-
-  pub test-box : a ≡ false → b ≡ true → true ≡ (a || (b || c))
-  test-box n e = sym (rw (n, e) refl)
-
-  pub test-mark : a ≡ false → b ≡ false → c ≡ (a || (b || c))
-  test-mark n m = sym (rw (n, m) refl)
 
 -- what a kind needs
 module _ (S : Sheet) (L : List Label) (v : ℕ) where
@@ -63,13 +50,13 @@ module _ (S : Sheet) (L : List Label) (v : ℕ) where
   input-needs : (k : Kind) → k ≡ input → (needs S L k v ≡ []) × (is_logic k ≡ false)
   input-needs k e = (ap (λ (k : Kind). needs S L k v) e, ap is_logic e)
 
-module _ {S : Sheet} {L : List Label} (v : ℕ) {marks cuts : List ℕ} (g : CoverFrom S L (v + 1) marks cuts) where
+module _ {S : Sheet} {L : List Label} (v : ℕ) {marks : List Bool} {cuts : List ℕ} (g : CoverFrom S L (v + 1) marks cuts) where
   -- the test of the code is that of the definition
   pub used-is : {graph : List ℕ} → Tabled S graph → v < 256 → used_in graph marks v ≡ used_node S L g.needed v
   used-is {graph} t l =
-      ap (λ (b : Bool). b || (is_box (kind_at graph v) || eqb (get_or marks v 0) 1)) (output-tabled S graph t v l)
-      ∙ ap (λ (b : Bool). (node S v).output || (b || eqb (get_or marks v 0) 1)) (ap is_box (kind-tabled S graph t v l))
-      ∙ ap (λ (b : Bool). (node S v).output || (is_box (node S v).kind || b)) (ap (λ (x : ℕ). eqb x 1) (g.marked v l) ∙ mark-again (mem v g.needed))
+      ap (λ (b : Bool). b || (is_box (kind_at graph v) || get_or marks v false)) (output-tabled S graph t v l)
+      ∙ ap (λ (b : Bool). (node S v).output || (b || get_or marks v false)) (ap is_box (kind-tabled S graph t v l))
+      ∙ ap (λ (b : Bool). (node S v).output || (is_box (node S v).kind || b)) (g.marked v l)
 
   after : (b : Bool) → used_node S L g.needed v ≡ b
       → used_below S L v (cond b (v ∷ needs S L (node S v).kind v ++ g.needed) g.needed) ≡ used S L
@@ -98,7 +85,7 @@ module _ {S : Sheet} {L : List Label} (v : ℕ) {marks cuts : List ℕ} (g : Cov
       row w le m (no n) = g.rows w (omega (arith, n)) m
 
   -- a used node, with the row of what it needs
-  cover-used : {more next : List ℕ} (row : List ℕ) → size S ≤ 256 → used_node S L g.needed v ≡ true → needs S L (node S v).kind v ≡ row → All (λ u. u < v) row
+  cover-used : {more : List Bool} {next : List ℕ} (row : List ℕ) → size S ≤ 256 → used_node S L g.needed v ≡ true → needs S L (node S v).kind v ≡ row → All (λ u. u < v) row
       → MarkedAll (v ∷ row) marks more → ((w : ℕ) → w < 256 → (w ≡ v → ⊥) → (count_of next w ≡ count_of cuts w) × (row_of next w ≡ row_of cuts w))
       → row_of next v ≡ cond (is_logic (node S v).kind) (chosen_cut S L v) [] → v < 256 → CoverFrom S L v more next
   cover-used {more} {next} row small e n low m same own l =
@@ -106,16 +93,11 @@ module _ {S : Sheet} {L : List Label} (v : ℕ) {marks cuts : List ℕ} (g : Cov
         needed = v ∷ row ++ g.needed;
         rest = ap (λ (r : List ℕ). used_below S L v (v ∷ r ++ g.needed)) (sym n) ∙ after true e;
         marked = λ u h.
-            m.each u h ∙ ap (λ (x : ℕ). cond (mem u (v ∷ row)) 1 x) (g.marked u h) ∙ flip (mem u (v ∷ row)) (mem u g.needed)
-            ∙ ap (λ (b : Bool). cond b 1 0) (sym (mem-append u (v ∷ row) g.needed));
+            m.each u h ∙ ap (λ (x : Bool). mem u (v ∷ row) || x) (g.marked u h) ∙ sym (mem-append u (v ∷ row) g.needed);
         rows = λ w le h. at_row w le h (ℕ_discrete w v);
         blank = λ w h. (same w (omega arith) (λ q. omega arith)).0 ∙ g.blank w (omega arith);
       }
     where
-      flip : (a b : Bool) → ◌≡◌ {A = ℕ} (cond a 1 (cond b 1 0)) (cond (a || b) 1 0)
-      flip true b = refl
-      flip false b = refl
-
       absent : (w : ℕ) → v < w → (b : Bool) → mem w (v ∷ row) ≡ b → b ≡ false
       absent w h false q = refl
       absent w h true q = absurd (past (mem-out w (v ∷ row) q))
@@ -140,7 +122,7 @@ module _ {S : Sheet} {graph steps levels : List ℕ} {limits : R.Header} (laid :
   small : size S ≤ 256
   small = laid.given.well.size.most
 
-  module _ {v : ℕ} (l : v < size S) {marks cuts : List ℕ} (g : CoverFrom S L (v + 1) marks cuts) {t : Bool} (e : t ≡ used_in graph marks v) where
+  module _ {v : ℕ} (l : v < size S) {marks : List Bool} {cuts : List ℕ} (g : CoverFrom S L (v + 1) marks cuts) {t : Bool} (e : t ≡ used_in graph marks v) where
     low : v < 256
     low = omega (arith, small)
 
@@ -154,13 +136,13 @@ module _ {S : Sheet} {graph steps levels : List ℕ} {limits : R.Header} (laid :
     turn-idle q = cover-idle v g (sym test ∙ q)
 
     module _ (q : t ≡ true) (rows : Rows 256 marks cuts) where
-      pub turn-input : {more : List ℕ} → input ≡ kind_at graph v → MarkedAll (v ∷ []) marks more → CoverFrom S L v more cuts
+      pub turn-input : {more : List Bool} → input ≡ kind_at graph v → MarkedAll (v ∷ []) marks more → CoverFrom S L v more cuts
       turn-input a own =
           let n = input-needs S L v (node S v).kind (sym (a ∙ kind)) in
           cover-used v g [] small (sym test ∙ q) n.0 tt own (λ w h k. (refl, refl))
           (row-blank cuts v (g.blank v (omega arith)) ∙ sym (ap (λ (b : Bool). cond b (chosen_cut S L v) []) n.1)) low
 
-      pub turn-box : {mid more : List ℕ} → is_box (kind_at graph v) ≡ true → MarkedAll (v ∷ []) marks mid → MarkedAll (operands_of graph v) mid more
+      pub turn-box : {mid more : List Bool} → is_box (kind_at graph v) ≡ true → MarkedAll (v ∷ []) marks mid → MarkedAll (operands_of graph v) mid more
           → CoverFrom S L v more cuts
       turn-box {mid} {more} a own m =
           let n = box-needs S L v (node S v).kind (sym (ap is_box kind) ∙ a) in
@@ -174,7 +156,7 @@ module _ {S : Sheet} {graph steps levels : List ℕ} {limits : R.Header} (laid :
       pub kind-logic : is_logic (kind_at graph v) ≡ true → logic_node S v ≡ true
       kind-logic a = sym (ap is_logic kind) ∙ a
 
-      pub turn-logic : {mid more next : List ℕ} → is_logic (kind_at graph v) ≡ true → Written v cuts next → row_of next v ≡ chosen_cut S L v → MarkedAll (v ∷ []) marks mid
+      pub turn-logic : {mid more : List Bool} {next : List ℕ} → is_logic (kind_at graph v) ≡ true → Written v cuts next → row_of next v ≡ chosen_cut S L v → MarkedAll (v ∷ []) marks mid
           → MarkedAll (row_of next v) mid more → CoverFrom S L v more next
       turn-logic {mid} {more} {next} a w is own m =
           let i = kind-logic a in
@@ -184,7 +166,7 @@ module _ {S : Sheet} {graph steps levels : List ℕ} {limits : R.Header} (laid :
           (is ∙ sym (ap (λ (b : Bool). cond b (chosen_cut S L v) []) i)) low
 
   -- before the first turn, and after the last
-  pub cover-none : {marks cuts : List ℕ} {n : ℕ} → n ≡ size S → ((u : ℕ) → u < 256 → get_or marks u 0 ≡ 0) → ((i : ℕ) → i < 2048 → get_or cuts i 0 ≡ 0) → CoverFrom S L n marks cuts
+  pub cover-none : {marks : List Bool} {cuts : List ℕ} {n : ℕ} → n ≡ size S → ((u : ℕ) → u < 256 → get_or marks u false ≡ false) → ((i : ℕ) → i < 2048 → get_or cuts i 0 ≡ 0) → CoverFrom S L n marks cuts
   cover-none {marks} {cuts} {n} e m c =
       record {
         needed = [];
@@ -194,30 +176,19 @@ module _ {S : Sheet} {graph steps levels : List ℕ} {limits : R.Header} (laid :
         blank = λ w h. count-blank cuts c w (omega (arith, small));
       }
 
-  pub cover-done : {marks cuts : List ℕ} → CoverFrom S L 0 marks cuts → Covered S L marks cuts
+  pub cover-done : {marks : List Bool} {cuts : List ℕ} → CoverFrom S L 0 marks cuts → Covered S L marks cuts
   cover-done g =
       record {
-        marked = λ v l. g.marked v (omega (arith, small)) ∙ ap (λ (us : List ℕ). cond (mem v us) 1 0) g.rest;
+        marked = λ v l. g.marked v (omega (arith, small)) ∙ ap (λ (us : List ℕ). mem v us) g.rest;
         rows = λ v l. g.rows v (omega arith) l ∙ ap (λ (us : List ℕ). leaves_of S L us v) g.rest;
       }
 
-pub rows_none : {marks cuts : List ℕ} → length marks ≡ 256 → length cuts ≡ 2048 → ((u : ℕ) → u < 256 → get_or marks u 0 ≡ 0) → ((i : ℕ) → i < 2048 → get_or cuts i 0 ≡ 0)
+pub rows_none : {marks : List Bool} {cuts : List ℕ} → length marks ≡ 256 → length cuts ≡ 2048 → ((i : ℕ) → i < 2048 → get_or cuts i 0 ≡ 0)
     → Rows 256 marks cuts
-rows_none {marks} {cuts} a b m c =
+rows_none {marks} {cuts} a b c =
     record {
       marks-wide = a;
       cuts-wide = b;
-      bits = λ v l. let z = m v l in omega arith;
       few = λ v l. let z = count-blank cuts c v l in omega arith;
       ids = λ v l. subst (All (λ u. u < 256)) (sym (row-blank cuts v (count-blank cuts c v l))) tt;
-    }
-
-pub rows-fewer : {n : ℕ} {marks cuts : List ℕ} → n ≤ 256 → Rows 256 marks cuts → Rows n marks cuts
-rows-fewer le h =
-    record {
-      marks-wide = h.marks-wide;
-      cuts-wide = h.cuts-wide;
-      bits = λ v l. h.bits v (omega arith);
-      few = λ v l. h.few v (omega arith);
-      ids = λ v l. h.ids v (omega arith);
     }

@@ -1,5 +1,5 @@
 -- What the cover writes, against document 01's used nodes and chosen cuts.
-use Rattle.std.specs.Prelude.{ℕ, ◌≤◌, ◌<◌, ◌≡◌, cond, List, map, length, get_or}
+use Rattle.std.specs.Prelude.{ℕ, ◌≤◌, ◌<◌, ◌≡◌, Bool, false, List, map, length, get_or}
 use Rattle.maps.specs.Limits.{leaves_range}
 use Rattle.maps.specs.Lists.{All, mem, below}
 use Rattle.maps.specs.Label.{Label}
@@ -17,14 +17,13 @@ abbrev pub row_of : (cuts : List ℕ) → ℕ → List ℕ
 row_of cuts v = map (leaf_of cuts v) (below (count_of cuts v))
 
 -- the marks are the used nodes, and the rows their chosen cuts: empty "unless the node is used logic"
-pub record Covered (S : Sheet) (L : List Label) (marks cuts : List ℕ) : Type 0 where
-  pub marked : (v : ℕ) → v < size S → get_or marks v 0 ≡ cond (mem v (used S L)) 1 0
+pub record Covered (S : Sheet) (L : List Label) (marks : List Bool) (cuts : List ℕ) : Type 0 where
+  pub marked : (v : ℕ) → v < size S → get_or marks v false ≡ mem v (used S L)
   pub rows : (v : ℕ) → v < size S → row_of cuts v ≡ leaves_of S L (used S L) v
 
 -- what writing the rows of n nodes rests on
-pub record Rows (n : ℕ) (marks cuts : List ℕ) : Type 0 where
+pub record Rows (n : ℕ) (marks : List Bool) (cuts : List ℕ) : Type 0 where
   pub marks-wide : length marks ≡ 256
   pub cuts-wide : length cuts ≡ 2048
-  pub bits : (v : ℕ) → v < n → get_or marks v 0 ≤ 1
   pub few : (v : ℕ) → v < n → count_of cuts v ≤ leaves_range.high
   pub ids : (v : ℕ) → v < n → All (λ u. u < 256) (row_of cuts v)

@@ -1,5 +1,5 @@
 -- What the functions of the cover answer.
-use Rattle.std.specs.Prelude.{ℕ, ◌≤◌, ◌<◌, ◌≡◌, Bool, true, cond, ◌||◌, List, eqb, length, get_or, take}
+use Rattle.std.specs.Prelude.{ℕ, ◌≤◌, ◌<◌, ◌≡◌, Bool, true, false, ◌||◌, List, eqb, length, get_or, take}
 use Rattle.maps.specs.Lists.{All, mem}
 use Rattle.maps.specs.Label.{Label}
 use Rattle.maps.specs.Limits.{leaves_range}
@@ -16,13 +16,13 @@ use Rattle.bound.specs.Going.{Given}
 use Rattle.cover.specs.Cover.{row_of}
 
 -- v is an output, a box, or marked
-abbrev pub used_in : (graph marks : List ℕ) → ℕ → Bool
-used_in graph marks v = eqb (mark_in graph v) 1 || (is_box (kind_at graph v) || eqb (get_or marks v 0) 1)
+abbrev pub used_in : (graph : List ℕ) (marks : List Bool) → ℕ → Bool
+used_in graph marks v = eqb (mark_in graph v) 1 || (is_box (kind_at graph v) || get_or marks v false)
 
 -- the nodes of a row are marked, besides those that were
-pub record MarkedAll (row marks more : List ℕ) : Type 0 where
+pub record MarkedAll (row : List ℕ) (marks more : List Bool) : Type 0 where
   pub wide : length more ≡ 256
-  pub each : (u : ℕ) → u < 256 → get_or more u 0 ≡ cond (mem u row) 1 (get_or marks u 0)
+  pub each : (u : ℕ) → u < 256 → get_or more u false ≡ (mem u row || get_or marks u false)
 
 -- r of the numbers of cut are kept: ids, at most k of them, and all that were found where these are
 pub record SoundCount (cut : List ℕ) (found k r : ℕ) : Type 0 where
@@ -49,9 +49,9 @@ pub record Picked (S : Sheet) (L : List Label) (v k r : ℕ) (cut : List ℕ) : 
   pub chosen : take r cut ≡ chosen_cut S L v
 
 -- the cover from node v on: marked is what its nodes make used, and their rows stand
-pub record CoverFrom (S : Sheet) (L : List Label) (v : ℕ) (marks cuts : List ℕ) : Type 0 where
+pub record CoverFrom (S : Sheet) (L : List Label) (v : ℕ) (marks : List Bool) (cuts : List ℕ) : Type 0 where
   pub needed : List ℕ
   pub rest : used_below S L v needed ≡ used S L
-  pub marked : (u : ℕ) → u < 256 → get_or marks u 0 ≡ cond (mem u needed) 1 0
+  pub marked : (u : ℕ) → u < 256 → get_or marks u false ≡ mem u needed
   pub rows : (w : ℕ) → v ≤ w → w < size S → row_of cuts w ≡ leaves_of S L needed w
   pub blank : (w : ℕ) → w < v → count_of cuts w ≡ 0

@@ -2,11 +2,12 @@
 ghost use Rattle.probe.specs.Probe.{HasCut, CutAnswer};
 ghost use Rattle.demands.specs.Reading.{Reads};
 
-use probe::{ReadAnswer, maps_cut, maps_has_cut, maps_read};
+use out_bytes::Answer;
+use probe::{maps_cut, maps_has_cut, maps_read};
 use rows::{Differences, Graph};
 
 // Reads a sheet into two tables.
-pub fn read_tables(sheet: &[u8], graph: &mut Graph, differences: &mut Differences) -> ReadAnswer
+pub fn read_tables(sheet: &[u8], graph: &mut Graph, differences: &mut Differences) -> Answer
     ensures { Reads sheet.now graph.old differences.old result.number result.place graph.new differences.new }
 {
     maps_read(sheet, graph, differences)

@@ -1,5 +1,5 @@
--- Tables and lists that a loop fills: copies, and the leaves of the marks.
-use mathlib.Core.Path.{◌≡◌, refl, sym, ap, ◌∙◌, subst}
+-- The list that a loop fills with the leaves of the marks.
+use mathlib.Core.Path.{◌≡◌, refl, sym, ap, ◌∙◌}
 use mathlib.Core.Logic.{◌⊎◌, inl, inr}
 use mathlib.Core.List.{List, [], ◌∷◌, ◌++◌, append-nil}
 use mathlib.Core.Bool.{Bool, true, false, cond}
@@ -12,25 +12,9 @@ use lib.Seq.{take-suc, take-set-le, get_or-set_same}
 use Rattle.maps.specs.Lists.{keep, below}
 use Rattle.maps.proofs.Member.{keep_append}
 use Rattle.rows.specs.Cells.{cell}
-use Rattle.flow.specs.Search.{bit, Seen, leaf_mark, single, rising, Turned, held, grown, Blocked, Pushed}
+use Rattle.flow.specs.Search.{bit, single, rising}
 use Rattle.flow.proofs.Bools.{bool}
 use Rattle.flow.proofs.Sums.{length-turn}
-
-pub note-same : (s cut : List ℕ) (x n : ℕ) → leaf_mark s x ≡ false → (n ≡ n + bit (leaf_mark s x)) × (take n cut ≡ take n cut ++ single (leaf_mark s x) x)
-note-same s cut x n e = ((let z = ap bit e in omega arith), sym (ap (λ (b : Bool). take n cut ++ single b x) e ∙ append-nil (take n cut)))
-
-pub note-more : (s cut : List ℕ) (x n : ℕ) → leaf_mark s x ≡ true → n < length cut → (n + 1 ≡ n + bit (leaf_mark s x)) × (take (n + 1) (set cut n x) ≡ take n cut ++ single (leaf_mark s x) x)
-note-more s cut x n e lt = (
-  (let z = ap bit e in omega arith),
-  ap (λ (m : ℕ). take m (set cut n x)) (add-one n)
-      ∙ take-suc (set cut n x) n 0 (let l = length-set cut n x in omega arith)
-      ∙ ap (λ (l : List ℕ). l ++ (cell (set cut n x) n ∷ [])) (take-set-le n cut n x (omega arith))
-      ∙ ap (λ (y : ℕ). take n cut ++ (y ∷ [])) (get_or-set_same cut n x 0 lt)
-      ∙ sym (ap (λ (b : Bool). take n cut ++ single b x) e),
-)
-
-pub room : (s cut : List ℕ) (x n : ℕ) → leaf_mark s x ≡ true → n + bit (leaf_mark s x) ≤ length cut → n < length cut
-room s cut x n e le = let z = ap bit e in omega arith
 
 pub rising_none : (f : ℕ → Bool) → rising f 0 ≡ []
 unfolding rising
@@ -61,6 +45,34 @@ rising-grow f m (suc n) le = go (λ l. rising-grow f m n l) (ℕ_discrete m (suc
     go rec (yes e) = let q = ap (λ (k : ℕ). length (rising f k)) e in omega arith
     go rec (no ne) = let ih = rec (omega arith) in let k = length-turn f n in omega arith
 
+-- the list has room for the leaf x
+pub room : (f : ℕ → Bool) (x n m : ℕ) → x < 256 → f x ≡ true → n ≡ length (rising f x) → length (rising f 256) ≤ m → n < m
+room f x n m lt e l le =
+    let longer = rising-longer f x in
+    let grow = rising-grow f (x + 1) 256 (omega arith) in
+    let one = ap bit e in
+    omega arith
+
+-- x is listed, a leaf
+pub note-more : (f : ℕ → Bool) (cut : List ℕ) (x n : ℕ) → f x ≡ true → n < length cut → n ≡ length (rising f x) → take n cut ≡ rising f x
+    → (n + 1 ≡ length (rising f (x + 1))) × (take (n + 1) (set cut n x) ≡ rising f (x + 1))
+note-more f cut x n e lt l t = (
+  (let longer = rising-longer f x in let one = ap bit e in omega arith),
+  ap (λ (m : ℕ). take m (set cut n x)) (add-one n)
+      ∙ take-suc (set cut n x) n 0 (let k = length-set cut n x in omega arith)
+      ∙ ap (λ (l : List ℕ). l ++ (cell (set cut n x) n ∷ [])) (take-set-le n cut n x (omega arith) ∙ t)
+      ∙ ap (λ (y : ℕ). rising f x ++ (y ∷ [])) (get_or-set_same cut n x 0 lt)
+      ∙ sym (rising-turn f x ∙ ap (λ (b : Bool). rising f x ++ single b x) e),
+)
+
+-- x is no leaf
+pub note-same : (f : ℕ → Bool) (cut : List ℕ) (x n : ℕ) → f x ≡ false → n ≡ length (rising f x) → take n cut ≡ rising f x
+    → (n ≡ length (rising f (x + 1))) × (take n cut ≡ rising f (x + 1))
+note-same f cut x n e l t = (
+  (let longer = rising-longer f x in let none = ap bit e in omega arith),
+  t ∙ sym (rising-turn f x ∙ ap (λ (b : Bool). rising f x ++ single b x) e ∙ append-nil (rising f x)),
+)
+
 -- the same as a selection
 pub keep-rising : (f : ℕ → Bool) (n : ℕ) → keep f (below n) ≡ rising f n
 unfolding rising
@@ -89,17 +101,3 @@ rising-low f m (suc n) le h = go (λ l. rising-low f m n l h) (dec_lt n m) (bool
     go rec (yes l) b = let e : m ≡ suc n = omega arith in ap (rising f) e
     go rec (no l) (inl t) = absurd (l (h n t))
     go rec (no l) (inr e) = rec (omega arith) ∙ sym (ap (λ (b : Bool). rising f n ++ single b n) e ∙ append-nil (rising f n))
-
--- ---- a search on copies
-
-pub turn-held : (graph code s s2 above a2 a2' : List ℕ) (x : ℕ) → s2 ≡ s → a2 ≡ above → Pushed graph code s2 a2 a2' x → Turned graph code s s above x
-turn-held graph code s s2 above a2 a2' x e e' p = held refl a2' (subst (λ (l : List ℕ). Pushed graph code s l a2' x) e' (subst (λ (l : List ℕ). Pushed graph code l a2 a2' x) e p))
-
-pub turn-grown : (graph code s s2 s2' s' above a2 a2' : List ℕ) (x : ℕ) → s2 ≡ s → a2 ≡ above → s' ≡ s2' → (Blocked graph code s2 s2' a2 a2') × Seen s2' x → Turned graph code s s' above x
-turn-grown graph code s s2 s2' s' above a2 a2' x e e' e'' b =
-    grown
-    (subst (λ (l : List ℕ). Blocked graph code s l above above) (sym e'')
-    (subst (λ (l : List ℕ). Blocked graph code s s2' l l) e'
-    (subst (λ (l : List ℕ). Blocked graph code s s2' a2 l) b.0.same
-    (subst (λ (l : List ℕ). Blocked graph code l s2' a2 a2') e b.0))))
-    (subst (λ (l : List ℕ). Seen l x) (sym e'') b.1)

@@ -1,13 +1,12 @@
 -- The cone of v with only those nodes inside that must be: where its leaves may all be leaves, its cut is an allowed one.
-use Prim.Native.Nat.{ℕ, zero, suc, ◌+◌, ◌≤◌, ◌<◌}
+use Prim.Native.Nat.{ℕ, zero, suc, ◌≤◌, ◌<◌}
 use mathlib.Core.Path.{◌≡◌, refl, sym, subst, ap, ◌∙◌}
 use mathlib.Core.Bool.{Bool, true, false, not, ◌&&◌}
 use mathlib.Core.List.{List, Memᴰ}
 use native.Mathlib.Omega.{arith}
-use lib.Dec.{ltb, eqb}
-use lib.ListN.{length, get_or, set, take, length-set}
-use lib.Seq.{get_or-set_same, get_or-set_other, get_or-take}
-use borrow.Author.Count.{below_more}
+use lib.Dec.{ltb}
+use lib.ListN.{length, get_or, take, replicate}
+use lib.Seq.{get_or-take}
 use borrow.Author.Tests.{ltb-true, ltb-false}
 use Rattle.maps.specs.Lists.{below}
 use Rattle.maps.specs.Sheet.{Sheet, size}
@@ -20,35 +19,20 @@ use Rattle.cone.specs.Walk.{marked, Question, FitTest}
 use Rattle.cut.specs.Question.{AllowedCut, code_for, Asked}
 use Rattle.cut.specs.Quick.{inside_mark, InsideMarked, AllLeaves}
 
--- one mark more
-pub mark-more : (code marks : List ℕ) (u v x : ℕ) → length marks ≡ 256 → u < v → v < 256 → x ≡ inside_mark (get_or code u 0)
-    → ((i : ℕ) → i < u → get_or marks i 0 ≡ inside_mark (get_or code i 0)) → ((i : ℕ) → u ≤ i → get_or marks i 0 ≡ 0)
-    → (length (set marks u x) ≡ 256)
-    × (u + 1 ≤ v)
-    × ((i : ℕ) → i < u + 1 → get_or (set marks u x) i 0 ≡ inside_mark (get_or code i 0))
-    × ((i : ℕ) → u + 1 ≤ i → get_or (set marks u x) i 0 ≡ 0)
-mark-more code marks u v x n l m e lower upper = (
-  length-set marks u x ∙ n,
-  omega arith,
-  below_more (λ i. get_or (set marks u x) i 0 ≡ inside_mark (get_or code i 0)) u
-      (λ i k. get_or-set_other marks u i x 0 (λ q. omega arith) ∙ lower i k)
-      (get_or-set_same marks u x 0 (omega arith) ∙ e),
-  λ i k. get_or-set_other marks u i x 0 (λ q. omega arith) ∙ upper i (omega arith),
-)
+-- where nothing is marked
+pub none_marked : (n i : ℕ) → get_or (replicate n false) i false ≡ false
+none_marked zero i = refl
+none_marked (suc n) zero = refl
+none_marked (suc n) (suc i) = none_marked n i
 
--- a mark is not 0 exactly where the code is 0
-mark_code : (c : ℕ) → not (eqb (inside_mark c) 0) ≡ true → c ≡ 0
+-- a node is marked exactly where its code is 0
+mark_code : (c : ℕ) → inside_mark c ≡ true → c ≡ 0
 mark_code zero e = refl
 mark_code (suc c) e = clash e
 
-code-mark : (c : ℕ) → not (eqb (inside_mark c) 0) ≡ false → c ≡ 0 → ⊥
-code-mark zero e q = let z : ◌≡◌ {A = ℕ} 0 1 = cc in omega arith
+code-mark : (c : ℕ) → inside_mark c ≡ false → c ≡ 0 → ⊥
+code-mark zero e q = clash (sym e)
 code-mark (suc c) e q = omega arith
-
--- no mark at another code
-pub no-mark : (c : ℕ) → (c ≡ 0 → ⊥) → 0 ≡ inside_mark c
-no-mark zero n = absurd (n refl)
-no-mark (suc c) n = refl
 
 must-logic : (l m : Bool) → code_for l m ≡ 0 → l ≡ true
 must-logic true m e = refl
@@ -61,14 +45,14 @@ may-leaf false true a b = refl
 may-leaf true false a b = absurd (a refl)
 may-leaf false false a b = absurd (b refl)
 
-module _ (S : Sheet) (may : ℕ → Bool) (v : ℕ) (graph code marks : List ℕ) (asked : Asked S may v graph code) (inside : InsideMarked code marks v) where
+module _ (S : Sheet) (may : ℕ → Bool) (v : ℕ) (graph code : List ℕ) (marks : List Bool) (asked : Asked S may v graph code) (inside : InsideMarked code marks v) where
   -- a marked node is below v and must be inside
   inner : (u : ℕ) → marked marks u ≡ true → (u < v) × (get_or code u 0 ≡ 0)
   inner u e = go (ltb u v) refl
     where
       go : (b : Bool) → ltb u v ≡ b → (u < v) × (get_or code u 0 ≡ 0)
-      go true q = (ltb-true u v q, mark_code (get_or code u 0) (subst (λ (x : ℕ). not (eqb x 0) ≡ true) (inside.below u (ltb-true u v q)) e))
-      go false q = clash (subst (λ (x : ℕ). not (eqb x 0) ≡ true) (inside.past u (ltb-false u v q)) e)
+      go true q = (ltb-true u v q, mark_code (get_or code u 0) (sym (inside.below u (ltb-true u v q)) ∙ e))
+      go false q = clash (sym (inside.past u (ltb-false u v q)) ∙ e)
 
   -- what the walk is asked
   pub walk-asked : Question S graph marks v
@@ -119,5 +103,5 @@ module _ (S : Sheet) (may : ℕ → Bool) (v : ℕ) (graph code marks : List ℕ
             let e = asked.below (get_or (take r list) j 0) p.0 in
             may-leaf (logic_node S (get_or (take r list) j 0)) (may (get_or (take r list) j 0))
             (λ q. code-mark (get_or code (get_or (take r list) j 0) 0)
-            (subst (λ (x : ℕ). not (eqb x 0) ≡ false) (inside.below (get_or (take r list) j 0) p.0) p.1) (e ∙ q))
+            (sym (inside.below (get_or (take r list) j 0) p.0) ∙ p.1) (e ∙ q))
             (λ q. leaves.leafy j few (ap (λ (u : ℕ). get_or code u 0) (sym (get_or-take r list j 0 few)) ∙ e ∙ q))

@@ -1,14 +1,15 @@
 -- What the walk before the search rests on.
-use Rattle.std.specs.Prelude.{ℕ, zero, suc, ◌≤◌, ◌<◌, ◌≡◌, List, get_or}
+use Rattle.std.specs.Prelude.{ℕ, zero, suc, ◌≤◌, ◌<◌, ◌≡◌, Bool, true, false, List, get_or}
 
-abbrev pub inside_mark : (code : ℕ) → ℕ
-inside_mark zero = 1
-inside_mark (suc c) = 0
+-- a node of this code must be inside
+abbrev pub inside_mark : (code : ℕ) → Bool
+inside_mark zero = true
+inside_mark (suc c) = false
 
 -- marked are the nodes below v that must be inside, and no others
-pub record InsideMarked (code marks : List ℕ) (v : ℕ) : Type 0 where
-  pub below : (u : ℕ) → u < v → get_or marks u 0 ≡ inside_mark (get_or code u 0)
-  pub past : (u : ℕ) → v ≤ u → get_or marks u 0 ≡ 0
+pub record InsideMarked (code : List ℕ) (marks : List Bool) (v : ℕ) : Type 0 where
+  pub below : (u : ℕ) → u < v → get_or marks u false ≡ inside_mark (get_or code u 0)
+  pub past : (u : ℕ) → v ≤ u → get_or marks u false ≡ false
 
 -- none of the first r ids is an input or box that may be no leaf
 pub record AllLeaves (code list : List ℕ) (r : ℕ) : Type 0 where

@@ -19,6 +19,7 @@ use Rattle.records.specs.Rows.{node_place, row_numbers}
 use Rattle.blif.proofs.Ordering.{all_append}
 use Rattle.blif.proofs.Positions.{take_next}
 use Rattle.names.specs.Table.{names_in, Listed}
+use Rattle.names.specs.declared.Names.{Names}
 use Rattle.names.proofs.Tables.{length-names}
 use Rattle.subset.proofs.PartsLaws.{inputs-names}
 use Rattle.definitions.specs.Rows.{row_meant, rows_from, row_of, ids_of}
@@ -26,21 +27,21 @@ use Rattle.definitions.specs.Kept.{Kept, Added}
 use Rattle.definitions.proofs.RowLaws.{names-append, reads-append, rows_append, ids-grow, has-append, all-grows}
 
 -- how many operands there are
-kept-reads : {names nodes operands : List ℕ} {d n u : ℕ} {ds : List Definition} → Kept d ds names nodes operands n u → u ≡ length (reads_of ds)
+kept-reads : {names : Names} {nodes operands : List ℕ} {d n u : ℕ} {ds : List Definition} → Kept d ds names nodes operands n u → u ≡ length (reads_of ds)
 kept-reads {names} {nodes} {operands} {d} {n} {u} {ds} k =
     let l : u ≤ length operands = omega (arith, k.few, k.long, k.listed.few) in
     omega (arith, length-take-le u operands l, ap length k.ids, length-map (reads_of ds) (id_of (names_of ds)))
 
 -- and how many definitions
-pub kept-size : {names nodes operands : List ℕ} {d n u : ℕ} {ds : List Definition} → Kept d ds names nodes operands n u → length ds ≡ n
+pub kept-size : {names : Names} {nodes operands : List ℕ} {d n u : ℕ} {ds : List Definition} → Kept d ds names nodes operands n u → length ds ≡ n
 kept-size {names} {n = n} {ds = ds} k =
     omega (arith, ap length k.named, length-names names n, length-map ds (λ (x : Definition). x.name))
 
-pub kept_same : {names nodes operands : List ℕ} {d n u : ℕ} {xs ys : List Definition} → xs ≡ ys → Kept d xs names nodes operands n u → Kept d ys names nodes operands n u
+pub kept_same : {names : Names} {nodes operands : List ℕ} {d n u : ℕ} {xs ys : List Definition} → xs ≡ ys → Kept d xs names nodes operands n u → Kept d ys names nodes operands n u
 kept_same {names} {nodes} {operands} {d} {n} {u} e k = subst (λ (zs : List Definition). Kept d zs names nodes operands n u) e k
 
 -- The new definition reads names that are defined, whose ids stay as they are when its own name is added behind them.
-pub kept-added : {names nodes operands names' nodes' operands' : List ℕ} {d n u m v : ℕ} {ds : List Definition} → Kept d ds names nodes operands n u
+pub kept-added : {names : Names} {nodes operands : List ℕ} {names' : Names} {nodes' operands' : List ℕ} {d n u m v : ℕ} {ds : List Definition} → Kept d ds names nodes operands n u
     → (x : Definition) → n + 1 ≡ m → u + length x.reads ≡ v → all (has (names_of ds)) x.reads ≡ true → length x.reads ≤ operands_most
     → Added d x names nodes operands n u names' nodes' operands' → Kept d (ds ++ (x ∷ [])) names' nodes' operands' m v
 kept-added {names} {nodes} {operands} {names'} {nodes'} {operands'} {d} {n} {u} {m} {v} {ds} k x em ev h l a =
@@ -100,7 +101,7 @@ id-small (n ∷ ns) w = go (equal w n) (id-small ns w)
     go false h = omega (arith, h)
 
 -- what the three tables are after the stores of one definition
-pub added : {names nodes operands names' nodes' operands' : List ℕ} {d n u : ℕ} (x : Definition) (next : ℕ) → next ≡ u + length x.reads → Listed names' (n + 1)
+pub added : {names : Names} {nodes operands : List ℕ} {names' : Names} {nodes' operands' : List ℕ} {d n u : ℕ} (x : Definition) (next : ℕ) → next ≡ u + length x.reads → Listed names' (n + 1)
     → names_in names' (n + 1) ≡ names_in names n ++ (x.name ∷ []) → take (node_place (n + 1)) nodes' ≡ take (node_place n) nodes ++ row_numbers (row_meant d x.kind next)
     → take next operands' ≡ take u operands ++ map (id_of (names_in names n)) x.reads → length nodes' ≡ length nodes → length operands' ≡ length operands
     → Added d x names nodes operands n u names' nodes' operands'
@@ -129,16 +130,16 @@ fresh_at old (n ∷ new) (suc i) f l =
     swap false b c = refl
 
 -- the i-th of k inputs
-module _ (ds : List Definition) (n : ℕ) (ws : List Word) (i k : ℕ) (l : i < k) (m : k ≤ length ws) where
-  pub input-new : {names nodes operands : List ℕ} {d u : ℕ} → fresh (names_of ds) (take k ws) ≡ true → Kept d (ds ++ inputs_of (take i ws)) names nodes operands (n + i) u → has (names_in names (n + i)) (get_or ws i []) ≡ false
+module _ (ds : List Definition) (ws : List Word) (i k : ℕ) (l : i < k) (m : k ≤ length ws) where
+  pub input-new : {names : Names} {nodes operands : List ℕ} {d n u : ℕ} → fresh (names_of ds) (take k ws) ≡ true → Kept d (ds ++ inputs_of (take i ws)) names nodes operands n u → has (names_in names n) (get_or ws i []) ≡ false
   input-new f q =
       ap (λ (ns : List Word). has ns (get_or ws i [])) (q.named ∙ names-inputs ds (take i ws) ∙ ap (λ (ws : List Word). names_of ds ++ ws) (sym (take-take i k ws (omega (arith, l)))))
       ∙ ap (has (names_of ds ++ take i (take k ws))) (sym (get_or-take k ws i [] l)) ∙ fresh_at (names_of ds) (take k ws) i f (omega (arith, length-take-le k ws m))
 
-  pub input-more : {names nodes operands names' nodes' operands' : List ℕ} {d u : ℕ} → Kept d (ds ++ inputs_of (take i ws)) names nodes operands (n + i) u
-      → Added d (definition (get_or ws i []) input []) names nodes operands (n + i) u names' nodes' operands'
-      → Kept d (ds ++ inputs_of (take (i + 1) ws)) names' nodes' operands' (n + (i + 1)) u
-  input-more q a = kept_same more (kept-added q (definition (get_or ws i []) input []) (omega arith) (omega arith) refl (omega arith) a)
+  pub input-more : {names : Names} {nodes operands : List ℕ} {names' : Names} {nodes' operands' : List ℕ} {d n u n' u' : ℕ} → Kept d (ds ++ inputs_of (take i ws)) names nodes operands n u
+      → Added d (definition (get_or ws i []) input []) names nodes operands n u names' nodes' operands' → n' ≡ n + 1 → u' ≡ u + 0
+      → Kept d (ds ++ inputs_of (take (i + 1) ws)) names' nodes' operands' n' u'
+  input-more q a en eu = kept_same more (kept-added q (definition (get_or ws i []) input []) (sym en) (sym eu) refl (omega arith) a)
     where
       more : (ds ++ inputs_of (take i ws)) ++ (definition (get_or ws i []) input [] ∷ []) ≡ ds ++ inputs_of (take (i + 1) ws)
       more =

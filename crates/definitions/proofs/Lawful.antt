@@ -10,7 +10,7 @@ use lib.ListN.{length, get_or, take, length-map}
 use lib.Seq.{take-length}
 use borrow.Author.Tests.{leb-true, not-true}
 use Rattle.maps.specs.Lists.{all}
-use Rattle.maps.specs.Sheet.{input, logic, box}
+use Rattle.maps.specs.Sheet.{input, box}
 use Rattle.maps.specs.Limits.{size_range, operands_most}
 use Rattle.maps.proofs.Over.{and-true}
 use Rattle.blif.specs.Words.{Word}
@@ -99,15 +99,6 @@ latch-defined (w ∷ ws) l = refl
 pub names-few : (ws : List Word) (n : ℕ) → length ws ≡ suc n → few_operands (names_line ws) ≡ true → n ≤ operands_most
 names-few [] n l f = absurd (omega arith)
 names-few (w ∷ ws) n l f = omega (arith, l, leb-true (length (init_of w ws)) operands_most f, init-length w ws)
-
--- the kind of a `.names`
-pub kind-none : (us : List Word) → length us ≡ 0 → input ≡ kind_of us
-kind-none [] l = refl
-kind-none (u ∷ us) l = absurd (omega arith)
-
-pub kind-some : (us : List Word) → (length us ≡ 0 → ⊥) → logic ≡ kind_of us
-kind-some [] l = absurd (l refl)
-kind-some (u ∷ us) l = refl
 
 -- a line of inputs
 pub all_words : (ws : List Word) (n : ℕ) → n ≡ length ws → take n ws ≡ ws

@@ -14,7 +14,7 @@ ghost use Rattle.records.specs.Rows.{node_place};
 ghost use Rattle.names.specs.Table.{names_in, Listed};
 ghost use Rattle.subset.specs.Meant.{statement_meant, Shaped};
 ghost use Rattle.definitions.specs.Rows.{row_meant};
-ghost use Rattle.definitions.specs.Kept.{Kept, Added, Lawful};
+ghost use Rattle.definitions.specs.Kept.{KeptIn, AddedTo, Lawful};
 
 use names::{Names, add_name, id_of};
 use records::{NodeRow, append, put_row};
@@ -29,43 +29,65 @@ const LATCH: Kind = Kind::Box {
 };
 
 // How many nodes and operands are kept.
-#[derive(Clone, Copy)]
+#[derive(Clone, Copy, Debug, PartialEq, Eq)]
 pub struct Size {
     pub nodes: usize,
     pub operands: usize,
+}
+
+// What is kept so far: the names, a row for each node, the ids of the operands, and how many nodes and operands there are.
+#[derive(Drop)]
+pub struct Circuit {
+    pub names: Names,
+    pub nodes: [u32; 1536],
+    pub operands: [u32; 1536],
+    pub size: Size,
+}
+
+impl Circuit {
+    // Nothing is kept yet.
+    pub fn new() -> Circuit
+        ensures { (d : ℕ) → KeptIn d [] result }
+    {
+        Circuit {
+            names: Names::new(),
+            nodes: [0; 1536],
+            operands: [0; 1536],
+            size: Size {
+                nodes: 0,
+                operands: 0,
+            },
+        }
+    }
 }
 
 // The row of a node that is not marked, where a table takes `delay` levels and the operands end at `end`.
 pub fn row_of(kind: Kind, delay: u32, end: u32) -> NodeRow
     ensures { result ≡ row_meant delay (kind_meant kind) end }
 {
+    let input = NodeRow {
+        kind: 0,
+        output: 0,
+        delay: 0,
+        latency: 0,
+        end,
+        clock: 0,
+    };
     match kind {
-        Kind::Input => NodeRow {
-            kind: 0,
-            output: 0,
-            delay: 0,
-            latency: 0,
-            end,
-            clock: 0,
-        },
+        Kind::Input => input,
         Kind::Logic => NodeRow {
             kind: 1,
-            output: 0,
             delay,
-            latency: 0,
-            end,
-            clock: 0,
+            ..input
         },
         Kind::Box {
             latency,
             clock_to_q,
         } => NodeRow {
             kind: 2,
-            output: 0,
-            delay: 0,
             latency: latency.0,
-            end,
             clock: clock_to_q.0,
+            ..input
         },
     }
 }
@@ -86,13 +108,11 @@ pub fn append_reads(
         × (length operands.new ≡ length operands.old) }
 {
     let mut at = start;
-    let mut i: usize = 0;
-    while i < reads {
+    for i in 0..reads {
         let first = after_blanks(text, at);
-        let id = id_of(text, names, count, first);
+        let id = id_of(text, names, count, first).unwrap_or(count);
         append(operands, used + i, id as u32);
         at = after_word(text, first);
-        i += 1;
     }
     at
 }
@@ -104,67 +124,46 @@ pub fn keep_node(
     reads: usize,
     kind: Kind,
     delay: u32,
-    names: &mut Names,
-    nodes: &mut [u32],
-    operands: &mut [u32],
-    size: Size,
+    circuit: &mut Circuit,
 ) -> usize
-    requires reads_in_bounds { (reads < length (words_at text.now start)) × (length (get_or (words_at text.now start) reads []) ≤ name_most) × Listed names.old size.nodes × (size.nodes < size_range.high) }
-    requires reads_value { has (names_in names.old size.nodes) (get_or (words_at text.now start) reads []) ≡ false }
-    requires nodes_in_bounds { (node_place (size.nodes + 1) ≤ length nodes.old) × (size.operands + reads ≤ length operands.old) × (size.operands + reads ≤ size_range.high * operands_most) }
+    requires reads_in_bounds { (reads < length (words_at text.now start)) × (length (get_or (words_at text.now start) reads []) ≤ name_most) × Listed circuit.old.names circuit.old.size.nodes × (circuit.old.size.nodes < size_range.high) }
+    requires reads_value { has (names_in circuit.old.names circuit.old.size.nodes) (get_or (words_at text.now start) reads []) ≡ false }
+    requires nodes_in_bounds { (node_place (circuit.old.size.nodes + 1) ≤ length circuit.old.nodes) × (circuit.old.size.operands + reads ≤ length circuit.old.operands) × (circuit.old.size.operands + reads ≤ size_range.high * operands_most) }
     ensures result_value { words_at text.now result ≡ drop (reads + 1) (words_at text.now start) }
-    ensures added { Added delay (definition (get_or (words_at text.now start) reads []) (kind_meant kind) (take reads (words_at text.now start)))
-        names.old nodes.old operands.old size.nodes size.operands names.new nodes.new operands.new }
+    ensures added { AddedTo delay (definition (get_or (words_at text.now start) reads []) (kind_meant kind) (take reads (words_at text.now start))) circuit.old circuit.new }
+    ensures size { (circuit.new.size.nodes ≡ circuit.old.size.nodes + 1) × (circuit.new.size.operands ≡ circuit.old.size.operands + reads) }
 {
-    let n = size.nodes;
-    let used = size.operands;
-    let rest = append_reads(text, start, reads, names, n, operands, used);
+    let Size { nodes, operands } = circuit.size;
+    let rest = append_reads(
+        text,
+        start,
+        reads,
+        &circuit.names,
+        nodes,
+        &mut circuit.operands,
+        operands,
+    );
     let first = after_blanks(text, rest);
-    add_name(text, names, n, first);
-    put_row(nodes, n, row_of(kind, delay, (used + reads) as u32));
+    add_name(text, &mut circuit.names, nodes, first);
+    let end = operands + reads;
+    put_row(&mut circuit.nodes, nodes, row_of(kind, delay, end as u32));
+    circuit.size = Size {
+        nodes: nodes + 1,
+        operands: end,
+    };
     after_word(text, first)
 }
 
 // Keeps inputs, whose names are the next k words.
-pub fn keep_inputs(
-    text: &[u8],
-    start: usize,
-    k: usize,
-    delay: u32,
-    names: &mut Names,
-    nodes: &mut [u32],
-    operands: &mut [u32],
-    size: Size,
-) -> Size
-    requires k_in_bounds { (k ≤ length (words_at text.now start)) × (all (λ w. leb (length w) name_most) (take k (words_at text.now start)) ≡ true) × (size.nodes + k ≤ size_range.high) }
-    requires kept { (ds : List Definition) × Kept delay ds names.old nodes.old operands.old size.nodes size.operands
-        × (fresh (names_of ds) (take k (words_at text.now start)) ≡ true) }
-    ensures { (ds : List Definition) → Kept delay ds names.old nodes.old operands.old size.nodes size.operands
-        → fresh (names_of ds) (take k (words_at text.now start)) ≡ true
-        → Kept delay (ds ++ inputs_of (take k (words_at text.now start))) names.new nodes.new operands.new result.nodes result.operands }
+pub fn keep_inputs(text: &[u8], start: usize, k: usize, delay: u32, circuit: &mut Circuit)
+    requires k_in_bounds { (k ≤ length (words_at text.now start)) × (all (λ w. leb (length w) name_most) (take k (words_at text.now start)) ≡ true) × (circuit.old.size.nodes + k ≤ size_range.high) }
+    requires kept { (ds : List Definition) × KeptIn delay ds circuit.old × (fresh (names_of ds) (take k (words_at text.now start)) ≡ true) }
+    ensures { (ds : List Definition) → KeptIn delay ds circuit.old → fresh (names_of ds) (take k (words_at text.now start)) ≡ true
+        → KeptIn delay (ds ++ inputs_of (take k (words_at text.now start))) circuit.new }
 {
     let mut at = start;
-    let mut i: usize = 0;
-    while i < k {
-        at = keep_node(
-            text,
-            at,
-            0,
-            Kind::Input,
-            delay,
-            names,
-            nodes,
-            operands,
-            Size {
-                nodes: size.nodes + i,
-                operands: size.operands,
-            },
-        );
-        i += 1;
-    }
-    Size {
-        nodes: size.nodes + k,
-        operands: size.operands,
+    for _ in 0..k {
+        at = keep_node(text, at, 0, Kind::Input, delay, circuit);
     }
 }
 
@@ -175,34 +174,25 @@ pub fn keep_one(
     reads: usize,
     kind: Kind,
     delay: u32,
-    names: &mut Names,
-    nodes: &mut [u32],
-    operands: &mut [u32],
-    size: Size,
-) -> Size
-    requires reads_in_bounds { (reads < length (words_at text.now rest)) × (length (get_or (words_at text.now rest) reads []) ≤ name_most) × (size.nodes < size_range.high) × (reads ≤ operands_most) }
-    requires kept { (ds : List Definition) × Kept delay ds names.old nodes.old operands.old size.nodes size.operands
-        × (has (names_of ds) (get_or (words_at text.now rest) reads []) ≡ false) }
-    ensures { (ds : List Definition) → Kept delay ds names.old nodes.old operands.old size.nodes size.operands
+    circuit: &mut Circuit,
+)
+    requires reads_in_bounds { (reads < length (words_at text.now rest)) × (length (get_or (words_at text.now rest) reads []) ≤ name_most) × (circuit.old.size.nodes < size_range.high) × (reads ≤ operands_most) }
+    requires kept { (ds : List Definition) × KeptIn delay ds circuit.old × (has (names_of ds) (get_or (words_at text.now rest) reads []) ≡ false) }
+    ensures { (ds : List Definition) → KeptIn delay ds circuit.old
         → all (has (names_of ds)) (take reads (words_at text.now rest)) ≡ true → has (names_of ds) (get_or (words_at text.now rest) reads []) ≡ false
-        → Kept delay (ds ++ (definition (get_or (words_at text.now rest) reads []) (kind_meant kind) (take reads (words_at text.now rest)) ∷ []))
-        names.new nodes.new operands.new result.nodes result.operands }
+        → KeptIn delay (ds ++ (definition (get_or (words_at text.now rest) reads []) (kind_meant kind) (take reads (words_at text.now rest)) ∷ [])) circuit.new }
 {
-    keep_node(text, rest, reads, kind, delay, names, nodes, operands, size);
-    Size {
-        nodes: size.nodes + 1,
-        operands: size.operands + reads,
-    }
+    keep_node(text, rest, reads, kind, delay, circuit);
 }
 
 // The kind of a `.names` that reads so many names.
 pub fn kind_of(reads: usize) -> Kind
     ensures { (us : List Word) → length us ≡ reads → kind_meant result ≡ kind_of us }
 {
-    if reads == 0 {
-        return Kind::Input;
+    match reads {
+        0 => Kind::Input,
+        _ => Kind::Logic,
     }
-    Kind::Logic
 }
 
 // Keeps what a line without fault defines.
@@ -212,36 +202,21 @@ pub fn keep_line(
     statement: Statement,
     count: usize,
     delay: u32,
-    names: &mut Names,
-    nodes: &mut [u32],
-    operands: &mut [u32],
-    size: Size,
-) -> Size
+    circuit: &mut Circuit,
+)
     requires count_value { (count ≡ length (words_at text.now rest)) × Shaped statement count }
-    requires kept { (ds : List Definition) × Kept delay ds names.old nodes.old operands.old size.nodes size.operands
-        × Lawful ds (statement_meant statement (words_at text.now rest)) }
-    ensures { (ds : List Definition) → Kept delay ds names.old nodes.old operands.old size.nodes size.operands
-        → Lawful ds (statement_meant statement (words_at text.now rest))
-        → Kept delay (ds ++ defined (statement_meant statement (words_at text.now rest))) names.new nodes.new operands.new result.nodes result.operands }
+    requires kept { (ds : List Definition) × KeptIn delay ds circuit.old × Lawful ds (statement_meant statement (words_at text.now rest)) }
+    ensures { (ds : List Definition) → KeptIn delay ds circuit.old → Lawful ds (statement_meant statement (words_at text.now rest))
+        → KeptIn delay (ds ++ defined (statement_meant statement (words_at text.now rest))) circuit.new }
 {
     match statement {
-        Statement::Inputs => keep_inputs(text, rest, count, delay, names, nodes, operands, size),
-        Statement::Names => keep_one(
-            text,
-            rest,
-            count - 1,
-            kind_of(count - 1),
-            delay,
-            names,
-            nodes,
-            operands,
-            size,
-        ),
-        Statement::Latch => keep_one(text, rest, 1, LATCH, delay, names, nodes, operands, size),
-        Statement::Model => size,
-        Statement::Outputs => size,
-        Statement::Row => size,
-        Statement::End => size,
-        Statement::Outside => size,
+        Statement::Inputs => keep_inputs(text, rest, count, delay, circuit),
+        Statement::Names => keep_one(text, rest, count - 1, kind_of(count - 1), delay, circuit),
+        Statement::Latch => keep_one(text, rest, 1, LATCH, delay, circuit),
+        Statement::Model
+        | Statement::Outputs
+        | Statement::Row
+        | Statement::End
+        | Statement::Outside => {}
     }
 }

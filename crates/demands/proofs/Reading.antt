@@ -10,7 +10,7 @@ use Rattle.maps.specs.Reading.{ReadsAs, Refuses}
 use Rattle.maps.proofs.Written.{reads-parse, parse-reads}
 use Rattle.maps.proofs.Refusing.{parse-refuses, refuses-parse, refuses-number}
 use Rattle.sheet.specs.Answer.{read_after, answer_number, answer_place}
-use Rattle.rows.proofs.Tables.{tabled, listed}
+use Rattle.rows.proofs.SheetTables.{tabled, listed}
 use Rattle.demands.specs.Reading.{Reads}
 
 pub reads : (bytes graph differences : List ℕ) (number place : ℕ) (graph' differences' : List ℕ) → Bytes bytes

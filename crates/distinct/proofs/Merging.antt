@@ -1,15 +1,16 @@
 -- Two lists of words merged: what holds after each word.
 use Prim.Native.Nat.{◌+◌}
 use mathlib.Core.Path.{◌≡◌, sym, subst, ◌∙◌}
-use mathlib.Core.Bool.{Bool, true, false}
 use mathlib.Core.List.{List, [], ◌∷◌, ◌++◌, append-nil}
 use native.Mathlib.Omega.{arith}
 use lib.Seq.{append_snoc}
 use Rattle.maps.specs.Lists.{All}
 use Rattle.maps.proofs.Member.{All-map, All-join, All-split}
 use Rattle.blif.specs.Words.{Word}
-use Rattle.distinct.specs.declared.Order.TheVariants as Is
-use Rattle.distinct.specs.Sorting.{order, Precedes, Ascending, occurrences, Sorted}
+use Rattle.std.specs.declared.cmp.Ordering.TheVariants as Is
+use Rattle.std.specs.Prelude.{Result, Ok, Err}
+use Rattle.distinct.specs.declared.Repeated.{Repeated}
+use Rattle.distinct.specs.Sorting.{order, Precedes, Ascending, occurrences, Twice, Sorted}
 use Rattle.distinct.proofs.Ordering.{equal-same, precedes-transitive}
 use Rattle.distinct.proofs.Repeating.{occurrences-append, self-once}
 
@@ -57,28 +58,28 @@ merging-next total x xs ys out m b = record {
 }
 
 -- equal heads are a word that comes twice
-pub merging-twice : (total : List Word) (x y : Word) (xs ys out : List Word) → Merging total (x ∷ xs) (y ∷ ys) out → order x y ≡ Is.Equal → Sorted total out false
+pub merging-twice : (total : List Word) (x y : Word) (xs ys out : List Word) → Merging total (x ∷ xs) (y ∷ ys) out → order x y ≡ Is.Equal → Twice total
 merging-twice total x y xs ys out m e =
     let b : occurrences x (y ∷ ys) ≡ occurrences x ys + 1 = subst (λ z. occurrences x (z ∷ ys) ≡ occurrences x ys + 1) (equal-same x y e) (self-once x ys) in
     (x, omega (arith, m.kept x, self-once x xs, b))
 
-pub merging-end : (total out : List Word) → Merging total [] [] out → Sorted total out true
+pub merging-end : (total out : List Word) → Merging total [] [] out → Sorted total out (Ok tt)
 merging-end total out m = (subst Ascending (append-nil out) m.left, λ w. omega (arith, m.kept w))
 
 -- Two parts sorted, and then merged: the whole is sorted.
-pub sorted-both : (xs ys xs' ys' out : List Word) (r : Bool) → Sorted xs xs' true → Sorted ys ys' true → Sorted (xs' ++ ys') out r → Sorted (xs ++ ys) out r
+pub sorted-both : (xs ys xs' ys' out : List Word) (r : Result (Unit {0}) Repeated) → Sorted xs xs' (Ok tt) → Sorted ys ys' (Ok tt) → Sorted (xs' ++ ys') out r → Sorted (xs ++ ys) out r
 sorted-both xs ys xs' ys' out r h k m = go r m
   where
     same : (w : Word) → occurrences w (xs' ++ ys') ≡ occurrences w (xs ++ ys)
     same w = omega (arith, occurrences-append w xs ys, occurrences-append w xs' ys', h.1 w, k.1 w)
 
-    go : (r : Bool) → Sorted (xs' ++ ys') out r → Sorted (xs ++ ys) out r
-    go true m = (m.0, λ w. m.1 w ∙ same w)
-    go false m = (m.0, omega (arith, m.1, same m.0))
+    go : (r : Result (Unit {0}) Repeated) → Sorted (xs' ++ ys') out r → Sorted (xs ++ ys) out r
+    go (Ok u) m = (m.0, λ w. m.1 w ∙ same w)
+    go (Err e) m = (m.0, omega (arith, m.1, same m.0))
 
 -- and where a word comes twice in a part, it does in the whole
-pub twice-left : (xs ys out : List Word) → Sorted xs out false → Sorted (xs ++ ys) out false
-twice-left xs ys out h = (h.0, omega (arith, h.1, occurrences-append h.0 xs ys))
+pub twice-left : (xs ys : List Word) → Twice xs → Twice (xs ++ ys)
+twice-left xs ys h = (h.0, omega (arith, h.1, occurrences-append h.0 xs ys))
 
-pub twice-right : (xs ys out : List Word) → Sorted ys out false → Sorted (xs ++ ys) out false
-twice-right xs ys out h = (h.0, omega (arith, h.1, occurrences-append h.0 xs ys))
+pub twice-right : (xs ys : List Word) → Twice ys → Twice (xs ++ ys)
+twice-right xs ys h = (h.0, omega (arith, h.1, occurrences-append h.0 xs ys))

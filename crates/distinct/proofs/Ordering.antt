@@ -9,7 +9,7 @@ use lib.Dec.{eqb, ltb}
 use borrow.Author.Tests.{ltb-true, ltb-false, lt-ltb, le-ltb, ne_eqb}
 use Rattle.maps.specs.Lists.{equal}
 use Rattle.blif.specs.Words.{Word}
-use Rattle.distinct.specs.declared.Order.TheVariants as Is
+use Rattle.std.specs.declared.cmp.Ordering.TheVariants as Is
 use Rattle.distinct.specs.Sorting.{order, Precedes}
 
 -- Greater is Less the other way round

@@ -10,9 +10,11 @@ use borrow.Author.Tests.{ltb-true, ltb-false}
 use Rattle.blif.specs.Words.{Word}
 use Rattle.blif.specs.Scan.{name_at}
 use Rattle.blif.proofs.Positions.{at-cons}
-use Rattle.distinct.specs.declared.Order.{Order}
-use Rattle.distinct.specs.declared.Order.TheVariants as Is
-use Rattle.distinct.specs.Sorting.{order, Precedes, Ascending, Sorted, names, Heads}
+use Rattle.std.specs.declared.cmp.Ordering.{Ordering}
+use Rattle.std.specs.declared.cmp.Ordering.TheVariants as Is
+use Rattle.std.specs.Prelude.{Result, Ok}
+use Rattle.distinct.specs.declared.Repeated.{Repeated}
+use Rattle.distinct.specs.Sorting.{order, Precedes, Ascending, Twice, Sorted, names, Heads}
 use Rattle.distinct.proofs.Ordering.{greater-less}
 use Rattle.distinct.proofs.Merging.{Before, Merging, merging_start, merging-swap, merging-next, merging-twice, merging-end}
 use Rattle.distinct.proofs.Filling.{take-write, rest_all, parts-length}
@@ -28,16 +30,16 @@ before-rest s ys w j h = go (ltb j (length ys)) refl
     go false e = subst (λ l. Before w (names s l)) (sym (drop_of_length-le ys (ltb-false j (length ys) e))) tt
 
 module _ (s xs ys : List ℕ) where
-  pub heads-both : (i j : ℕ) (r : Order) → i < length xs → j < length ys → r ≡ order (name_at s (get_or xs i 0)) (name_at s (get_or ys j 0)) → Heads s xs ys i j r
+  pub heads-both : (i j : ℕ) (r : Ordering) → i < length xs → j < length ys → r ≡ order (name_at s (get_or xs i 0)) (name_at s (get_or ys j 0)) → Heads s xs ys i j r
   heads-both i j Is.Less l m e = (l, λ q. sym e)
   heads-both i j Is.Equal l m e = (l, m, sym e)
   heads-both i j Is.Greater l m e = (m, λ q. sym e)
 
   -- where the lesser head stands
-  pub head-left : (i j : ℕ) (r : Order) → Heads s xs ys i j r → r ≡ Is.Less → i < length xs
+  pub head-left : (i j : ℕ) (r : Ordering) → Heads s xs ys i j r → r ≡ Is.Less → i < length xs
   head-left i j r h e = (subst (Heads s xs ys i j) e h).0
 
-  pub head-right : (i j : ℕ) (r : Order) → Heads s xs ys i j r → r ≡ Is.Greater → j < length ys
+  pub head-right : (i j : ℕ) (r : Ordering) → Heads s xs ys i j r → r ≡ Is.Greater → j < length ys
   head-right i j r h e = (subst (Heads s xs ys i j) e h).0
 
   -- the words of both lists, and what is left of them after k words
@@ -95,15 +97,15 @@ module _ (s xs ys : List ℕ) where
         }
 
     -- one word more, from the first list or from the second
-    module _ (l : k < length out) (r : Order) (h : Heads s xs ys i (k - i) r) (out' : List ℕ) (i' : ℕ) where
+    module _ (l : k < length out) (r : Ordering) (h : Heads s xs ys i (k - i) r) (out' : List ℕ) (i' : ℕ) where
       pub state-left : r ≡ Is.Less → out' ≡ set out k (get_or xs i 0) → i' ≡ i + 1 → State out' i' (k + 1) × (length out' ≡ length out)
       state-left e f g = rw (f, g) (step_left l (subst (Heads s xs ys i (k - i)) e h), length-set out k (get_or xs i 0))
 
       pub state-right : r ≡ Is.Greater → out' ≡ set out k (get_or ys (k - i) 0) → i' ≡ i → State out' i' (k + 1) × (length out' ≡ length out)
       state-right e f g = rw (f, g) (step_right l (subst (Heads s xs ys i (k - i)) e h), length-set out k (get_or ys (k - i) 0))
 
-    pub state-twice : (after : List Word) (r : Order) → Heads s xs ys i (k - i) r → r ≡ Is.Equal → Sorted (names s xs ++ names s ys) after false
-    state-twice after r g e =
+    pub state-twice : (r : Ordering) → Heads s xs ys i (k - i) r → r ≡ Is.Equal → Twice (names s xs ++ names s ys)
+    state-twice r g e =
         let j = k - i in
         let h = subst (Heads s xs ys i (k - i)) e g in
         merging-twice (names s xs ++ names s ys) (name_at s (get_or xs i 0)) (name_at s (get_or ys j 0)) (names s (drop (i + 1) xs)) (names s (drop (j + 1) ys)) (names s (take k out))
@@ -111,16 +113,16 @@ module _ (s xs ys : List ℕ) where
         (subst (λ ws. Merging (names s xs ++ names s ys) ws (names s (drop j ys)) (names s (take k out))) (names-drop s xs i h.0) m.rests))
         h.2
 
-    pub state-end : length xs + length ys ≤ k → Sorted (names s xs ++ names s ys) (names s (take (length xs + length ys) out)) true
+    pub state-end : length xs + length ys ≤ k → Sorted (names s xs ++ names s ys) (names s (take (length xs + length ys) out)) (Ok tt)
     state-end l =
         let e : k ≡ length xs + length ys = omega (arith, m.first, m.second) in
-        subst (λ n. Sorted (names s xs ++ names s ys) (names s (take n out)) true) e
+        subst (λ n. Sorted (names s xs ++ names s ys) (names s (take n out)) (Ok tt)) e
         (merging-end (names s xs ++ names s ys) (names s (take k out))
         (subst (λ r. Merging (names s xs ++ names s ys) [] (names s r) (names s (take k out))) (drop_of_length-le ys {i = k - i} (omega (arith, m.first)))
         (subst (λ r. Merging (names s xs ++ names s ys) (names s r) (names s (drop (k - i) ys)) (names s (take k out))) (drop_of_length-le xs {i = i} (omega (arith, m.second))) m.rests)))
 
 -- the two parts of a list, merged
-pub sorted-parts : (s l out : List ℕ) (h : ℕ) (r : Bool) → h ≤ length l
+pub sorted-parts : (s l out : List ℕ) (h : ℕ) (r : Result (Unit {0}) Repeated) → h ≤ length l
     → Sorted (names s (take h l) ++ names s (take (length l - h) (drop h l))) (names s (take (length (take h l) + length (take (length l - h) (drop h l))) out)) r
     → Sorted (names s l) (names s (take (length l) out)) r
 sorted-parts s l out h r b m =

@@ -10,6 +10,8 @@ use Rattle.maps.specs.Lists.{All, equal}
 use Rattle.blif.specs.Words.{Word}
 use Rattle.blif.specs.Names.{has, fresh}
 use Rattle.blif.proofs.Naming.{equal-true, equal-self}
+use Rattle.std.specs.Prelude.{Result, Ok, Err, is_ok}
+use Rattle.distinct.specs.declared.Repeated.{Repeated}
 use Rattle.distinct.specs.Sorting.{Precedes, Ascending, occurrences, Sorted}
 use Rattle.distinct.proofs.Ordering.{precedes-other}
 
@@ -61,6 +63,6 @@ ascending-once (x ∷ ws) h w = go (equal w x) refl (ascending-once ws h.1 w)
     go false e l = omega arith
 
 -- what sorting answers is whether the words are all different
-pub sorted-fresh : (words sorted : List Word) (r : Bool) → Sorted words sorted r → r ≡ fresh [] words
-sorted-fresh words sorted true h = sym (once-fresh [] words (λ w. omega (arith, h.1 w, ascending-once sorted h.0 w)))
-sorted-fresh words sorted false h = sym (twice-fresh h.0 [] words (omega arith) (omega (arith, h.1)))
+pub sorted-fresh : (words sorted : List Word) (r : Result (Unit {0}) Repeated) → Sorted words sorted r → is_ok r ≡ fresh [] words
+sorted-fresh words sorted (Ok u) h = sym (once-fresh [] words (λ w. omega (arith, h.1 w, ascending-once sorted h.0 w)))
+sorted-fresh words sorted (Err e) h = sym (twice-fresh h.0 [] words (omega arith) (omega (arith, h.1)))

@@ -5,108 +5,68 @@ ghost use Rattle.std.specs.Prelude.{◌+◌, ◌≤◌, ◌<◌, ◌≡◌, true
 ghost use Rattle.blif.specs.Names.{fresh};
 ghost use Rattle.blif.specs.Scan.{name_at, words_at};
 ghost use Rattle.distinct.specs.Sorting.{order, names, Ascending, Sorted, Heads};
-ghost use Rattle.distinct.specs.Pieces.{Stands};
 
-use scan::{after_blanks, after_word, ends_line, joins, name_next};
+use scan::{after_joins, line_ends, line_words, name_bytes};
+use std::cmp::Ordering;
 
 // The byte that begins a comment.
-const COMMENT: u8 = 35;
+const COMMENT: u8 = b'#';
 
+// How many bytes a text has at most, how many words can stand in it, and how many of them are few.
+const MOST_BYTES: usize = 65536;
+
+const MOST_WORDS: usize = 32768;
+
+const FEW_WORDS: usize = 256;
+
+// Why words are not sorted: one of them comes twice.
 #[derive(Clone, Copy)]
-pub enum Order {
-    Less,
-    Equal,
-    Greater,
-}
+struct Repeated;
 
 // The order of the names at two positions.
-pub fn compare(text: &[u8], a: usize, b: usize) -> Order
+pub fn compare(text: &[u8], a: usize, b: usize) -> Ordering
     ensures { result ≡ order (name_at text.now a) (name_at text.now b) }
 {
-    let mut p = name_next(text, a);
-    let mut q = name_next(text, b);
-    while p != 0 {
-        if q == 0 {
-            return Order::Greater;
-        }
-        let x = text[p - 1];
-        let y = text[q - 1];
-        if x < y {
-            return Order::Less;
-        }
-        if y < x {
-            return Order::Greater;
-        }
-        p = name_next(text, p);
-        q = name_next(text, q);
-    }
-    if q == 0 {
-        return Order::Equal;
-    }
-    Order::Less
+    name_bytes(text, a).cmp(name_bytes(text, b))
 }
 
 // The order of the words at places i and j of two lists, of which not both have ended there.
-fn heads(text: &[u8], xs: &[u16], ys: &[u16], i: usize, j: usize) -> Order
+fn heads(text: &[u8], xs: &[u16], ys: &[u16], i: usize, j: usize) -> Ordering
     requires { (j ≤ length ys.now) × (i + j < length xs.now + length ys.now) }
     ensures { Heads text.now xs.now ys.now i j result }
 {
-    if xs.len() <= i {
-        return Order::Greater;
+    match (xs.get(i), ys.get(j)) {
+        (Some(a), Some(b)) => compare(text, usize::from(*a), usize::from(*b)),
+        (Some(_), None) => Ordering::Less,
+        (None, _) => Ordering::Greater,
     }
-    if ys.len() <= j {
-        return Order::Less;
-    }
-    let a = xs[i];
-    let b = ys[j];
-    compare(text, a as usize, b as usize)
 }
 
 // Merges two ascending lists into `out`, unless they have a word in common.
-fn merge(text: &[u8], xs: &[u16], ys: &[u16], out: &mut [u16]) -> bool
+fn merge(text: &[u8], xs: &[u16], ys: &[u16], out: &mut [u16]) -> Result<(), Repeated>
     requires ys_in_bounds { length xs.now + length ys.now ≤ length out.old }
     requires ascending { Ascending (names text.now xs.now) × Ascending (names text.now ys.now) }
     ensures { (length out.new ≡ length out.old)
         × Sorted (names text.now xs.now ++ names text.now ys.now)
         (names text.now (take (length xs.now + length ys.now) out.new)) result }
 {
-    let n = xs.len() + ys.len();
     let mut i: usize = 0;
-    let mut k: usize = 0;
-    while k < n {
+    for k in 0..xs.len() + ys.len() {
         let j = k - i;
-        let first = heads(text, xs, ys, i, j);
-        match first {
-            Order::Equal => {
-                return false;
-            }
-            Order::Less => {
+        match heads(text, xs, ys, i, j) {
+            Ordering::Equal => return Err(Repeated),
+            Ordering::Less => {
                 out[k] = xs[i];
                 i += 1;
             }
-            Order::Greater => {
-                out[k] = ys[j];
-            }
+            Ordering::Greater => out[k] = ys[j],
         }
-        k += 1;
     }
-    true
-}
-
-// Copies as many elements as `to` has.
-fn copy(from: &[u16], to: &mut [u16])
-    requires { length to.old ≤ length from.now }
-    ensures { to.new ≡ take (length to.old) from.now }
-{
-    let mut i: usize = 0;
-    while i < to.len() {
-        to[i] = from[i];
-        i += 1;
-    }
+    Ok(())
 }
 
 // Merges the parts of a list before `half` and from it on, both ascending, into `out`.
-fn merge_parts(text: &[u8], words: &[u16], half: usize, out: &mut [u16]) -> bool
+fn merge_parts(text: &[u8], words: &[u16], half: usize, out: &mut [u16]) -> Result<(), Repeated>
     requires half_in_bounds { (half ≤ length words.now) × (length words.now ≤ length out.old) }
     requires ascending { Ascending (names text.now (take half words.now)) × Ascending (names text.now (drop half words.now)) }
     ensures { (length out.new ≡ length out.old)
@@ -116,38 +76,36 @@ fn merge_parts(text: &[u8], words: &[u16], half: usize, out: &mut [u16]) -> bool
 }
 
 // Merges the parts of a list within it, by way of `room`.
-fn merge_within(text: &[u8], words: &mut [u16], half: usize, room: &mut [u16]) -> bool
+fn merge_within(
+    text: &[u8],
+    words: &mut [u16],
+    half: usize,
+    room: &mut [u16],
+) -> Result<(), Repeated>
     requires half_in_bounds { (half ≤ length words.old) × (length words.old ≤ length room.old) }
     requires ascending { Ascending (names text.now (take half words.old)) × Ascending (names text.now (drop half words.old)) }
     ensures { (length words.new ≡ length words.old)
         × (length room.new ≡ length room.old)
         × Sorted (names text.now words.old) (names text.now words.new) result }
 {
-    if !merge_parts(text, words, half, room) {
-        return false;
-    }
-    copy(room, words);
-    true
+    merge_parts(text, words, half, room)?;
+    words.copy_from_slice(&room[..words.len()]);
+    Ok(())
 }
 
 // Sorts words, unless one of them comes twice.
-fn sort(text: &[u8], words: &mut [u16], room: &mut [u16]) -> bool
+fn sort(text: &[u8], words: &mut [u16], room: &mut [u16]) -> Result<(), Repeated>
     requires { length words.old ≤ length room.old }
     ensures { (length words.new ≡ length words.old)
         × (length room.new ≡ length room.old)
         × Sorted (names text.now words.old) (names text.now words.new) result }
 {
-    let n = words.len();
-    if n < 2 {
-        return true;
+    if words.len() < 2 {
+        return Ok(());
     }
-    let half = n / 2;
-    if !sort(text, &mut words[..half], room) {
-        return false;
-    }
-    if !sort(text, &mut words[half..], room) {
-        return false;
-    }
+    let half = words.len() / 2;
+    sort(text, &mut words[..half], room)?;
+    sort(text, &mut words[half..], room)?;
     merge_within(text, words, half, room)
 }
 
@@ -157,13 +115,8 @@ fn collect(text: &[u8], start: usize, words: &mut [u16])
     requires words_len { length words.old ≡ length (words_at text.now start) }
     ensures { names text.now words.new ≡ words_at text.now start }
 {
-    let mut at = start;
-    let mut i: usize = 0;
-    while i < words.len() {
-        let first = after_blanks(text, at);
+    for (i, first) in line_words(text, start).enumerate() {
         words[i] = first as u16;
-        at = after_word(text, first);
-        i += 1;
     }
 }
 
@@ -174,7 +127,7 @@ fn distinct_in(text: &[u8], at: usize, words: &mut [u16], room: &mut [u16]) -> b
     ensures { result ≡ fresh [] (words_at text.now at) }
 {
     collect(text, at, words);
-    sort(text, words, room)
+    sort(text, words, room).is_ok()
 }
 
 // Whether the words of a line, `count` of them, are all different; there may be more places.
@@ -192,39 +145,15 @@ fn distinct_within(
     distinct_in(text, at, &mut words[..count], room)
 }
 
-// The same with places for 256 words.
+// The same with places for few words.
 fn distinct_few(text: &[u8], at: usize, count: usize) -> bool
     requires text_len_bound { (length text.now ≤ 65536) × (count ≡ length (words_at text.now at)) }
     requires count_bound { count ≤ 256 }
     ensures { result ≡ fresh [] (words_at text.now at) }
 {
-    let mut words = [0u16; 256];
-    let mut room = [0u16; 256];
+    let mut words = [0; FEW_WORDS];
+    let mut room = [0; FEW_WORDS];
     distinct_within(text, at, count, &mut words, &mut room)
-}
-
-// What stands at a position of a line.
-#[derive(Clone, Copy)]
-pub enum Piece {
-    End,
-    Join,
-    Byte(u8),
-}
-
-fn piece_at(text: &[u8], at: usize) -> Piece
-    ensures { Stands text.now at result }
-{
-    if text.len() <= at {
-        return Piece::End;
-    }
-    if joins(text, at) {
-        return Piece::Join;
-    }
-    let b = text[at];
-    if ends_line(b) {
-        return Piece::End;
-    }
-    Piece::Byte(b)
 }
 
 // Copies a line without its joins, and the byte of a comment after it, unless it is too long. A comparison takes a step for each join that it passes,
@@ -234,23 +163,14 @@ fn unjoin(text: &[u8], start: usize, line: &mut [u8]) -> bool
         × (result ≡ true → words_at line.new 0 ≡ words_at text.now start) }
 {
     let mut at = start;
-    let mut n: usize = 0;
-    while n < line.len() {
-        let here = piece_at(text, at);
-        match here {
-            Piece::End => {
-                line[n] = COMMENT;
-                return true;
-            }
-            Piece::Join => {
-                at += 2;
-            }
-            Piece::Byte(b) => {
-                line[n] = b;
-                n += 1;
-                at += 1;
-            }
+    for place in line.iter_mut() {
+        at = after_joins(text, at);
+        if line_ends(text, at) {
+            *place = COMMENT;
+            return true;
         }
+        *place = text[at];
+        at += 1;
     }
     false
 }
@@ -269,9 +189,10 @@ fn distinct_unjoined(
     ensures { result ≡ fresh [] (words_at text.now at) }
 {
     if unjoin(text, at, line) {
-        return distinct_within(line, 0, count, words, room);
+        distinct_within(line, 0, count, words, room)
+    } else {
+        distinct_within(text, at, count, words, room)
     }
-    distinct_within(text, at, count, words, room)
 }
 
 // The same with places for as many words as a text can have.
@@ -280,9 +201,9 @@ fn distinct_many(text: &[u8], at: usize, count: usize) -> bool
     requires count_bound { count ≤ 32768 }
     ensures { result ≡ fresh [] (words_at text.now at) }
 {
-    let mut line = [0u8; 65536];
-    let mut words = [0u16; 32768];
-    let mut room = [0u16; 32768];
+    let mut line = [0; MOST_BYTES];
+    let mut words = [0; MOST_WORDS];
+    let mut room = [0; MOST_WORDS];
     distinct_unjoined(text, at, count, &mut line, &mut words, &mut room)
 }
 
@@ -291,8 +212,9 @@ pub fn distinct_words(text: &[u8], at: usize, count: usize) -> bool
     requires { (length text.now ≤ 65536) × (count ≡ length (words_at text.now at)) }
     ensures { result ≡ fresh [] (words_at text.now at) }
 {
-    if count <= 256 {
-        return distinct_few(text, at, count);
+    if count <= FEW_WORDS {
+        distinct_few(text, at, count)
+    } else {
+        distinct_many(text, at, count)
     }
-    distinct_many(text, at, count)
 }

@@ -10,6 +10,7 @@ use native.Mathlib.Omega.{arith}
 use lib.ListN.{length, set, length-set}
 use lib.Seq.{get_or-set_same, get_or-set_other}
 use lib.Dec.{eqb}
+use borrow.Author.Count.{below_more}
 use borrow.Author.Tests.{ne_eqb}
 use Rattle.rows.specs.Table.{count_in, operand_in}
 use Rattle.rows.specs.Cells.{cell, Ends}
@@ -98,7 +99,7 @@ pub block_none : (graph code s above : List ℕ) → Blocked graph code s s abov
 block_none graph code s above = record { same = refl; grow = λ i n. n; done = done_none graph code s above; fewer = omega arith; long = refl }
 
 module _ (graph code s s' above above' above'' : List ℕ) (b : Blocked graph code s s' above above') where
-  push-after : (from : ℕ) → Pushed graph code s' above' above'' from → Pushed graph code s above above'' from
+  pub push-after : (from : ℕ) → Pushed graph code s' above' above'' from → Pushed graph code s above above'' from
   push-after from p = record {
     flow = p.flow;
     more = λ u lt n. subst (λ (l : List ℕ). count u above'' ≡ count u l + bit (eqb from u)) b.same (p.more u lt n);
@@ -146,12 +147,12 @@ unfolding Closed
 expand-leaf graph code s above p from flow here three = push-out graph code s above from flow (λ C closed t. ⊎_elim (λ h. let l = (closed from t).1 in let q = ap (λ (n : ℕ). cell code n) h in omega arith) (λ z. omega arith) here)
 
 module _ (graph code s s' above above' : List ℕ) (p : ℕ) (low : p < 256) (in-s : p < length s) (z : cell s p ≡ 0) (inside : cell code p < 3)
-    (b : Blocked graph code (set s p 1) s' above above') (all : (i : ℕ) → 0 ≤ i → i < count_in graph p → Entered code s' (operand_in graph p i)) where
+    (b : Blocked graph code (set s p 1) s' above above') (all : (i : ℕ) → i < count_in graph p → Entered code s' (operand_in graph p i)) where
   -- no operand led on, and p carries no flow
   pub expand-stuck : cell above' p ≡ p → (Blocked graph code s s' above above') × Seen s' p
   expand-stuck still = (
     block-mark graph code s s' above above' p in-s z b
-        (λ u lt e. subst (λ (v : ℕ). OutDone graph code s' above v) (sym e) (record { inside = inside; operands = λ j lt. all j (omega arith) lt; back = λ f. absurd (f (sym (ap (λ (l : List ℕ). cell l p) b.same) ∙ still)) }))
+        (λ u lt e. subst (λ (v : ℕ). OutDone graph code s' above v) (sym e) (record { inside = inside; operands = λ j lt. all j lt; back = λ f. absurd (f (sym (ap (λ (l : List ℕ). cell l p) b.same) ∙ still)) }))
         (λ u lt e. absurd (omega arith)),
     b.grow p (marked s p in-s),
   )
@@ -165,7 +166,7 @@ module _ (graph code s s' above above' : List ℕ) (p : ℕ) (low : p < 256) (in
       (λ d. subst (λ (v : ℕ). Pushed graph code s above above'' v) is-from (push-mark graph code s s' above above'' p in-s p (push-after graph code (set s p 1) s' above above' above'' b p d)))
       (λ d. (
         block-mark graph code s s'' above above'' p in-s z (block-after graph code (set s p 1) s' above above' above'' b s'' d.0)
-            (λ u lt e. subst (λ (v : ℕ). OutDone graph code s'' above v) (sym e) (record { inside = inside; operands = λ j lt. entered-grows code s' s'' (operand_in graph p j) d.0.grow (all j (omega arith) lt); back = λ f. d.1.1 not-zero }))
+            (λ u lt e. subst (λ (v : ℕ). OutDone graph code s'' above v) (sym e) (record { inside = inside; operands = λ j lt. entered-grows code s' s'' (operand_in graph p j) d.0.grow (all j lt); back = λ f. d.1.1 not-zero }))
             (λ u lt e. absurd (omega arith)),
         d.0.grow p (b.grow p (marked s p in-s)),
       ))
@@ -182,15 +183,14 @@ module _ (graph code s s' above above' : List ℕ) (p : ℕ) (low : p < 256) (in
 
 -- ---- scan
 
-pub scan-more : (graph code s s' s'' above above' above'' : List ℕ) (p j from : ℕ) (r : Bool) → Blocked graph code s s' above above' → Entered code s' (operand_in graph p j)
-    → Ends r (Pushed graph code s' above' above'' from) ((Blocked graph code s' s'' above' above'') × ((i : ℕ) → j + 1 ≤ i → i < count_in graph p → Entered code s'' (operand_in graph p i)))
-    → Ends r (Pushed graph code s above above'' from) ((Blocked graph code s s'' above above'') × ((i : ℕ) → j ≤ i → i < count_in graph p → Entered code s'' (operand_in graph p i)))
-scan-more graph code s s' s'' above above' above'' p j from r b e d = ends-map r (push-after graph code s s' above above' above'' b from)
-    (λ x. (block-after graph code s s' above above' above'' b s'' x.0, λ i le lt. go x i le lt (ℕ_discrete j i))) d
-  where
-    go : (Blocked graph code s' s'' above' above'') × ((i : ℕ) → j + 1 ≤ i → i < count_in graph p → Entered code s'' (operand_in graph p i)) → (i : ℕ) → j ≤ i → i < count_in graph p → Dec (j ≡ i) → Entered code s'' (operand_in graph p i)
-    go x i le lt (yes q) = subst (λ (n : ℕ). Entered code s'' (operand_in graph p n)) q (entered-grows code s' s'' (operand_in graph p j) x.0.grow e)
-    go x i le lt (no f) = x.1 i (omega arith) lt
+-- one operand more is entered
+pub scan-more : (graph code s s' s'' above above' above'' : List ℕ) (p j : ℕ) → Blocked graph code s s' above above' → ((i : ℕ) → i < j → Entered code s' (operand_in graph p i))
+    → Blocked graph code s' s'' above' above'' → Entered code s'' (operand_in graph p j)
+    → (Blocked graph code s s'' above above'') × ((i : ℕ) → i < j + 1 → Entered code s'' (operand_in graph p i))
+scan-more graph code s s' s'' above above' above'' p j b before d here = (
+  block-after graph code s s' above above' above'' b s'' d,
+  below_more (λ i. Entered code s'' (operand_in graph p i)) j (λ i lt. entered-grows code s' s'' (operand_in graph p i) d.grow (before i lt)) here,
+)
 
 -- ---- enter
 

@@ -1,16 +1,15 @@
 -- Marks read as tests: the nodes inside, and the leaves.
-use mathlib.Core.Path.{◌≡◌, refl, ap}
-use mathlib.Core.Logic.{⊎_elim}
+use mathlib.Core.Path.{◌≡◌, refl, sym, ap, ◌∙◌}
 use mathlib.Core.List.{List}
 use mathlib.Core.Bool.{Bool, true, false, not, ◌&&◌}
 use Prim.Native.Nat.{ℕ, zero, suc, ◌+◌, ◌<◌}
 use native.Mathlib.Omega.{arith}
-use lib.Dec.{ltb}
-use borrow.Author.Tests.{lt-ltb, ltb-true}
+use lib.Dec.{ltb, eqb}
+use borrow.Author.Tests.{lt-ltb, ltb-true, ne_eqb}
 use Rattle.maps.proofs.Over.{and-true}
 use Rattle.rows.specs.Cells.{cell}
 use Rattle.flow.specs.Search.{bit, Seen, some?, member, leaf_mark}
-use Rattle.flow.proofs.Bools.{bool, and_yes, out-yes}
+use Rattle.flow.proofs.Bools.{and_yes}
 
 pub some-yes : (a : ℕ) → ((a ≡ 0) → ⊥) → some? a ≡ true
 unfolding some?
@@ -30,18 +29,19 @@ pub member-no : (s : List ℕ) (u : ℕ) → member s u ≡ true → (u < 256) �
 unfolding member
 member-no s u t = let h = and-true (ltb u 256) (some? (cell s u)) t in (ltb-true u 256 h.0, some-no (cell s u) h.1)
 
--- x was not entered
-pub mark-none : (s : List ℕ) (x : ℕ) → cell s (x + 256) ≡ 0 → leaf_mark s x ≡ false
-unfolding some?
-mark-none s x z = go (not (member s x)) (some? (cell s (x + 256))) (ap some? z)
-  where
-    go : (a b : Bool) → b ≡ false → (a && b) ≡ false
-    go true b e = e
-    go false b e = refl
-
 -- x is inside
 pub mark-inside : (s : List ℕ) (x : ℕ) → x < 256 → Seen s x → leaf_mark s x ≡ false
 mark-inside s x lt n = ap (λ (b : Bool). not b && some? (cell s (x + 256))) (member-yes s x lt n)
 
-pub mark-yes : (s : List ℕ) (x : ℕ) → cell s x ≡ 0 → Seen s (x + 256) → leaf_mark s x ≡ true
-mark-yes s x z n = out-yes (member s x) (some? (cell s (x + 256))) (⊎_elim (λ t. absurd ((member-no s x t).1 z)) (λ f. f) (bool (member s x))) (some-yes (cell s (x + 256)) n)
+-- x is not inside: it is a leaf exactly if it was entered
+pub mark-entered : (s : List ℕ) (x : ℕ) → cell s x ≡ 0 → not (eqb (cell s (x + 256)) 0) ≡ leaf_mark s x
+unfolding some?
+mark-entered s x z = go (cell s (x + 256)) ∙ ap (λ (b : Bool). not b && some? (cell s (x + 256))) (sym (outside (member s x) (λ t. (member-no s x t).1 z)))
+  where
+    go : (a : ℕ) → not (eqb a 0) ≡ some? a
+    go zero = refl
+    go (suc a) = ap not (ne_eqb (suc a) 0 (omega arith))
+
+    outside : (b : Bool) → (b ≡ true → ⊥) → b ≡ false
+    outside true f = absurd (f refl)
+    outside false f = refl

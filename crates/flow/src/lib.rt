@@ -4,7 +4,7 @@
 // that u was entered from above.
 #![tactic(auto)]
 
-ghost use Rattle.std.specs.Prelude.{◌≡◌, ◌⊎◌, ℕ, ◌+◌, ◌<◌, ◌≤◌, length};
+ghost use Rattle.std.specs.Prelude.{◌≡◌, ◌⊎◌, ℕ, ◌+◌, ◌<◌, ◌≤◌, IfSome, unwrap_or};
 ghost use Rattle.rows.specs.Cells.{cell};
 ghost use Rattle.rows.specs.Table.{count_in, operand_in, Falling};
 ghost use Rattle.flow.specs.Search.{Startable, Under, Link, Searched, Seen, Entered, Augmented};
@@ -35,7 +35,7 @@ pub fn expand(
         return false;
     }
     seen[i] = 1;
-    if scan(graph, code, seen, above, p, 0, from) {
+    if scan(graph, code, seen, above, p, from) {
         return true;
     }
     if above[i] == p {
@@ -44,7 +44,7 @@ pub fn expand(
     enter(graph, code, seen, above, p, p)
 }
 
-// Enters the operands of p from the jth on.
+// Enters the operands of p.
 #[cycle(enter_expand_scan)]
 fn scan(
     graph: &Graph,
@@ -52,22 +52,19 @@ fn scan(
     seen: &mut [u8; 512],
     above: &mut [u32; 256],
     p: u32,
-    j: u32,
     from: u32,
 ) -> bool
     requires startable { Startable graph.now code.now seen.old above.old p from }
     requires under { Under graph.now code.now from p }
     ensures { Searched result graph.now code.now seen.old seen.new above.old above.new from
-        ((i : ℕ) → j ≤ i → i < count_in graph.now p → Entered code.now seen.new (operand_in graph.now p i)) }
+        ((i : ℕ) → i < count_in graph.now p → Entered code.now seen.new (operand_in graph.now p i)) }
 {
-    if count_in(graph, p) <= j {
-        return false;
+    for j in 0..count_in(graph, p) {
+        if enter(graph, code, seen, above, operand_in(graph, p, j), from) {
+            return true;
+        }
     }
-    let y = operand_in(graph, p, j);
-    if enter(graph, code, seen, above, y, from) {
-        return true;
-    }
-    scan(graph, code, seen, above, p, j + 1, from)
+    false
 }
 
 // Enters x from above, with a unit that leaves `from`. A unit that x carries already must find another way.
@@ -109,30 +106,16 @@ fn enter(
     false
 }
 
-// Sets every byte of s to 0.
-fn clear(s: &mut [u8])
-    ensures { (i : ℕ) → cell s.new i ≡ 0 }
-{
-    let mut i = 0;
-    while i < s.len() {
-        s[i] = 0;
-        i += 1;
-    }
-}
-
 // The empty flow: each node names itself.
-fn start(a: &mut [u32])
-    requires { length a.old ≡ 256 }
-    ensures { (i : ℕ) → i < 256 → cell a.new i ≡ i }
+fn start(above: &mut [u32; 256])
+    ensures { (i : ℕ) → i < 256 → cell above.new i ≡ i }
 {
-    let mut i: u32 = 0;
-    while i < 256 {
-        a[i as usize] = i;
-        i += 1;
+    for i in 0..256u32 {
+        above[i as usize] = i;
     }
 }
 
-// Sends units from v along augmenting paths, until a search fails or k + 1 units flow; the number of units.
+// Sends units from v along augmenting paths, until a search fails; the number of units then, or none where k + 1 units flow.
 pub fn augment(
     graph: &Graph,
     code: &[u8; 256],
@@ -140,20 +123,18 @@ pub fn augment(
     above: &mut [u32; 256],
     v: u32,
     k: u32,
-) -> u32
+) -> Option<u32>
     requires falling { Falling graph.now }
     requires v_bound { (v < 256) × (k < 256) }
-    ensures { Augmented graph.now code.now seen.new above.new v k result }
+    ensures most { IfSome result (λ units. units ≤ k) }
+    ensures augmented { Augmented graph.now code.now seen.new above.new v k (unwrap_or result (k + 1)) }
 {
     start(above);
-    let mut got: u32 = 0;
-    while got <= k {
-        clear(seen);
-        if expand(graph, code, seen, above, v, v) {
-            got += 1;
-        } else {
-            return got;
+    for units in 0..=k {
+        *seen = [0; 512];
+        if !expand(graph, code, seen, above, v, v) {
+            return Some(units);
         }
     }
-    got
+    None
 }

@@ -1,41 +1,37 @@
 -- How many elements of a list pass a test, and whether all or none do.
 use Prim.Native.Nat.{ℕ, zero, suc, ◌+◌, ◌≤◌, ◌<◌}
-use mathlib.Core.Path.{◌≡◌, refl, ap, ◌∙◌}
-use mathlib.Core.Bool.{Bool, true, false, cond, ◌&&◌, not, and-false}
+use mathlib.Core.Path.{◌≡◌, refl, sym, ap, ◌∙◌}
+use mathlib.Core.Bool.{Bool, true, false, cond, ◌&&◌, not}
 use mathlib.Core.List.{List, [], ◌∷◌}
 use native.Mathlib.Omega.{arith}
-use native.Mathlib.Nat.{not-suc-le-zero}
-use lib.ListN.{length, get_or, take, length-append}
+use native.Mathlib.Numerals.{add-one}
+use lib.ListN.{length, take}
 use Rattle.maps.specs.Lists.{all, keep}
-use Rattle.maps.proofs.Member.{keep_append}
-use Rattle.blif.proofs.Ordering.{all_append}
-use Rattle.blif.proofs.Positions.{take_next}
+
+-- where no element is left
+pub taken_none : {A : Type 0} (n : ℕ) (xs : List A) → n ≤ length xs → (0 < n → xs ≡ []) → take n xs ≡ []
+taken_none zero xs l f = refl
+taken_none {A} (suc n) xs l f = absurd (omega (arith, l, ap (length {A = A}) (f (omega arith))))
 
 module _ {A : Type 0} (p : A → Bool) where
-  -- the first n elements, and one more
-  module _ (d : A) (xs : List A) (n : ℕ) (l : n < length xs) where
-    kept_next : length (keep p (take (n + 1) xs)) ≡ length (keep p (take n xs)) + length (keep p (get_or xs n d ∷ []))
-    kept_next =
-        ap (λ (ys : List A). length (keep p ys)) (take_next xs n d l) ∙ ap length (keep_append p (take n xs) (get_or xs n d ∷ []))
-        ∙ length-append (keep p (take n xs)) (keep p (get_or xs n d ∷ []))
+  -- of the next n elements, the first one more
+  module _ (n m : ℕ) (xs rest : List A) (x : A) (e : xs ≡ x ∷ rest) (q : m + 1 ≡ n) where
+    next_taken : take n xs ≡ x ∷ take m rest
+    next_taken = ap (take n) e ∙ ap (λ (k : ℕ). take k (x ∷ rest)) (sym q ∙ add-one m)
 
-    pub kept_more : p (get_or xs n d) ≡ true → length (keep p (take (n + 1) xs)) ≡ length (keep p (take n xs)) + 1
-    kept_more h = kept_next ∙ rw h refl
+    pub all_next : p x ≡ true → all p (take n xs) ≡ all p (take m rest)
+    all_next h = ap (all p) next_taken ∙ rw h refl
 
-    pub kept_same : p (get_or xs n d) ≡ false → length (keep p (take (n + 1) xs)) ≡ length (keep p (take n xs))
-    kept_same h = kept_next ∙ rw h (omega arith)
+    pub all-stops : p x ≡ false → all p (take n xs) ≡ false
+    all-stops h = ap (all p) next_taken ∙ rw h refl
 
-    pub all_more : all p (take n xs) ≡ true → p (get_or xs n d) ≡ true → all p (take (n + 1) xs) ≡ true
-    all_more h k = ap (all p) (take_next xs n d l) ∙ all_append p (take n xs) (get_or xs n d ∷ []) ∙ rw (h, k) refl
+    pub kept_next : p x ≡ true → length (keep p (take n xs)) ≡ suc (length (keep p (take m rest)))
+    kept_next h = ap (λ (ys : List A). length (keep p ys)) next_taken ∙ rw h refl
 
-  -- one of the first n elements fails
-  pub one-fails : (d : A) (xs : List A) (n i : ℕ) → i < n → i < length xs → p (get_or xs i d) ≡ false → all p (take n xs) ≡ false
-  one-fails d [] n i l m h = absurd (not-suc-le-zero m)
-  one-fails d (x ∷ xs) zero i l m h = absurd (not-suc-le-zero l)
-  one-fails d (x ∷ xs) (suc n) zero l m h = rw h refl
-  one-fails d (x ∷ xs) (suc n) (suc i) l m h = rw (one-fails d xs n i (omega (arith, l)) (omega (arith, m)) h) (and-false (p x))
+    pub kept_same : p x ≡ false → length (keep p (take n xs)) ≡ length (keep p (take m rest))
+    kept_same h = ap (λ (ys : List A). length (keep p ys)) next_taken ∙ rw h refl
 
-  kept-most : (xs : List A) → length (keep p xs) ≤ length xs
+  pub kept-most : (xs : List A) → length (keep p xs) ≤ length xs
   kept-most [] = omega arith
   kept-most (x ∷ xs) = go (p x) (kept-most xs)
     where

@@ -1,3 +1,4 @@
 pub mod KeepLaws
 pub mod TableLaws
 pub mod LineTests
+pub mod WordLaws

@@ -1,26 +1,20 @@
--- The tests of a line for grounds 10 and 11, by the parts of its words, and its ground by its tests.
+-- The tests of a line for ground 10, by the parts of its words.
 use Prim.Native.Nat.{ℕ, zero, suc, ◌+◌, ◌≤◌, ◌<◌}
 use mathlib.Core.Path.{◌≡◌, refl, sym, ap, ◌∙◌}
 use mathlib.Core.Bool.{Bool, true, false, ◌&&◌, and-false}
 use mathlib.Core.List.{List, [], ◌∷◌}
 use mathlib.Core.Logic.{◌⊎◌, inl, inr}
 use native.Mathlib.Omega.{arith}
-use lib.Dec.{leb}
 use lib.ListN.{length, take, drop, length-drop}
 use lib.Seq.{length-take-le}
-use borrow.Author.Tests.{le-leb, lt-leb}
 use Rattle.maps.specs.Lists.{all, keep}
-use Rattle.maps.specs.Limits.{operands_most, size_range}
 use Rattle.blif.specs.Words.{Word}
 use Rattle.blif.specs.Subset.{Statement}
 use Rattle.blif.specs.Names.{has, fresh, defined, resolves}
-use Rattle.blif.specs.Limits.{name_most, some_nodes, within_limits}
-use Rattle.blif.specs.Model.{is_outside}
 use Rattle.blif.proofs.Freshness.{apart, fresh-splits}
 use Rattle.subset.specs.declared.Parts.{Parts}
 use Rattle.subset.specs.Meant.{PartsOf}
-use Rattle.grounds.specs.Ground.{fault_after}
-use Rattle.grounds.proofs.KeepLaws.{all-kept, some-lost, none_kept, some-kept}
+use Rattle.grounds.proofs.KeepLaws.{kept-most, all-kept, some-lost, none_kept, some-kept}
 
 -- fewer than two words are different
 pub fresh-few : (n : ℕ) (ws : List Word) → n < 2 → true ≡ fresh [] (take n ws)
@@ -46,11 +40,11 @@ module _ (old ws after : List Word) (s : Statement) (p : Parts) (P : PartsOf s w
   resolves-parts = rw (P.reads, P.defines, sym A) (ap (λ (b : Bool). all (has old) reads && b) (fresh-splits old defines))
 
   -- a name is read that is not defined
-  pub reads-fail : length (keep (has old) reads) < p.reads → false ≡ resolves old (defined s)
+  pub reads-fail : (length (keep (has old) reads) ≡ p.reads → ⊥) → false ≡ resolves old (defined s)
   reads-fail l =
       let e = P.enough in
       let n = length-take-le p.reads ws (omega arith) in
-      let h = some-lost (has old) reads (omega (arith, l, n)) in
+      let h = some-lost (has old) reads (omega (arith, l, n, kept-most (has old) reads)) in
       sym (resolves-parts ∙ ap (λ (b : Bool). b && (apart old defines && fresh [] defines)) h)
 
   -- a name is defined again
@@ -67,37 +61,3 @@ module _ (old ws after : List Word) (s : Statement) (p : Parts) (P : PartsOf s w
       let h = all-kept (has old) reads (omega (arith, l, n)) in
       let k = none_kept (has old) defines (omega (arith, m)) in
       e ∙ sym (resolves-parts ∙ rw (h, k) refl)
-
--- ground 11, limit by limit
-module _ (n : ℕ) (ws : List Word) (s : Statement) (p : Parts) (P : PartsOf s ws p) where
-  abbrev short : Bool
-  short = all (λ w. leb (length w) name_most) (take p.names ws)
-
-  limits-parts : within_limits n s ≡ (short && leb p.reads operands_most && leb (n + p.defines) size_range.high && some_nodes n s)
-  limits-parts = rw (P.names, P.few, P.count) refl
-
-  pub name-long : short ≡ false → false ≡ within_limits n s
-  name-long h = sym (limits-parts ∙ rw h refl)
-
-  pub operands-many : short ≡ true → operands_most < p.reads → false ≡ within_limits n s
-  operands-many h l = sym (limits-parts ∙ rw (h, lt-leb p.reads operands_most l) refl)
-
-  pub nodes-many : short ≡ true → p.reads ≤ operands_most → size_range.high < n + p.defines → false ≡ within_limits n s
-  nodes-many h l m = sym (limits-parts ∙ rw (h, le-leb p.reads operands_most l, lt-leb (n + p.defines) size_range.high m) refl)
-
-  pub nodes-decide : (b : Bool) → short ≡ true → p.reads ≤ operands_most → n + p.defines ≤ size_range.high → b ≡ some_nodes n s → b ≡ within_limits n s
-  nodes-decide b h l m e = e ∙ sym (limits-parts ∙ rw (h, le-leb p.reads operands_most l, le-leb (n + p.defines) size_range.high m) refl)
-
--- the ground of a line, by its tests
-module _ (ns : List Word) (n : ℕ) (s : Statement) where
-  pub fault-subset : is_outside s ≡ true → 9 ≡ fault_after ns n s
-  fault-subset o = rw o refl
-
-  pub fault-name : is_outside s ≡ false → resolves ns (defined s) ≡ false → 10 ≡ fault_after ns n s
-  fault-name o r = rw (o, r) refl
-
-  pub fault-limit : is_outside s ≡ false → resolves ns (defined s) ≡ true → within_limits n s ≡ false → 11 ≡ fault_after ns n s
-  fault-limit o r w = rw (o, r, w) refl
-
-  pub fault-none : is_outside s ≡ false → resolves ns (defined s) ≡ true → within_limits n s ≡ true → 0 ≡ fault_after ns n s
-  fault-none o r w = rw (o, r, w) refl

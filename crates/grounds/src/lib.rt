@@ -13,8 +13,15 @@ ghost use Rattle.subset.specs.Meant.{statement_meant, Shaped, PartsOf};
 
 use distinct::distinct_words;
 use names::{Names, id_of};
-use scan::{after_blanks, after_word, name_length};
+use scan::{after_blanks, after_word, line_words, name_length};
 use subset::{Parts, Statement, is_outside, parts_of, some_nodes};
+
+// The limits: bytes of a name, operands of a node, nodes.
+const NAME_MOST: usize = 31;
+
+const OPERANDS_MOST: usize = 6;
+
+const NODES_MOST: usize = 256;
 
 // Where the words after the next k stand.
 pub fn skip_words(text: &[u8], start: usize, k: usize) -> usize
@@ -22,11 +29,8 @@ pub fn skip_words(text: &[u8], start: usize, k: usize) -> usize
     ensures { words_at text.now result ≡ drop k (words_at text.now start) }
 {
     let mut at = start;
-    let mut i: usize = 0;
-    while i < k {
-        let first = after_blanks(text, at);
-        at = after_word(text, first);
-        i += 1;
+    for _ in 0..k {
+        at = after_word(text, after_blanks(text, at));
     }
     at
 }
@@ -36,19 +40,13 @@ pub fn count_defined(text: &[u8], start: usize, k: usize, names: &Names, count: 
     requires { (k ≤ length (words_at text.now start)) × Listed names.now count }
     ensures { result ≡ length (keep (has (names_in names.now count)) (take k (words_at text.now start))) }
 {
-    let mut n: usize = 0;
-    let mut at = start;
-    let mut i: usize = 0;
-    while i < k {
-        let first = after_blanks(text, at);
-        let id = id_of(text, names, count, first);
-        if id < count {
-            n += 1;
+    let mut defined = 0;
+    for first in line_words(text, start).take(k) {
+        if id_of(text, names, count, first).is_some() {
+            defined += 1;
         }
-        at = after_word(text, first);
-        i += 1;
     }
-    n
+    defined
 }
 
 // Whether the next k words are names of at most 31 bytes.
@@ -56,15 +54,10 @@ pub fn all_short(text: &[u8], start: usize, k: usize) -> bool
     requires { k ≤ length (words_at text.now start) }
     ensures { result ≡ all (λ w. leb (length w) name_most) (take k (words_at text.now start)) }
 {
-    let mut at = start;
-    let mut i: usize = 0;
-    while i < k {
-        let first = after_blanks(text, at);
-        if 31 < name_length(text, first) {
+    for first in line_words(text, start).take(k) {
+        if NAME_MOST < name_length(text, first) {
             return false;
         }
-        at = after_word(text, first);
-        i += 1;
     }
     true
 }
@@ -76,19 +69,10 @@ pub fn resolves(text: &[u8], rest: usize, parts: Parts, names: &Names, count: us
     ensures { (s : Subset.Statement) → PartsOf s (words_at text.now rest) parts
         → result ≡ Resolves (names_in names.now count) (defined s) }
 {
-    let reads = parts.reads;
-    let defines = parts.defines;
-    if count_defined(text, rest, reads, names, count) < reads {
-        return false;
-    }
-    let at = skip_words(text, rest, reads);
-    if 0 < count_defined(text, at, defines, names, count) {
-        return false;
-    }
-    if defines < 2 {
-        return true;
-    }
-    distinct_words(text, at, defines)
+    let after_reads = skip_words(text, rest, parts.reads);
+    count_defined(text, rest, parts.reads, names, count) == parts.reads
+        && count_defined(text, after_reads, parts.defines, names, count) == 0
+        && (parts.defines < 2 || distinct_words(text, after_reads, parts.defines))
 }
 
 // Ground 11: whether a line keeps the limits where so many nodes stand before it.
@@ -96,30 +80,22 @@ pub fn within_limits(
     text: &[u8],
     rest: usize,
     statement: Statement,
-    count: usize,
     parts: Parts,
     nodes: usize,
 ) -> bool
-    requires { (parts.names ≤ length (words_at text.now rest)) × (count ≡ length (words_at text.now rest)) × Shaped statement count × (nodes ≤ 256) }
+    requires { (parts.names ≤ length (words_at text.now rest)) × Shaped statement (length (words_at text.now rest)) × (nodes ≤ 256) }
     ensures { PartsOf (statement_meant statement (words_at text.now rest)) (words_at text.now rest) parts
         → result ≡ within_limits nodes (statement_meant statement (words_at text.now rest)) }
 {
-    if !all_short(text, rest, parts.names) {
-        return false;
-    }
-    if 6 < parts.reads {
-        return false;
-    }
-    if 256 - nodes < parts.defines {
-        return false;
-    }
-    some_nodes(statement, count, nodes)
+    all_short(text, rest, parts.names)
+        && parts.reads <= OPERANDS_MOST
+        && parts.defines <= NODES_MOST - nodes
+        && some_nodes(statement, nodes)
 }
 
 // The ground on which a line is faulty.
-#[derive(Clone, Copy)]
+#[derive(Clone, Copy, Debug, PartialEq, Eq)]
 pub enum Ground {
-    Good,
     Subset,
     Name,
     Limit,
@@ -133,19 +109,19 @@ pub fn ground_of(
     count: usize,
     names: &Names,
     nodes: usize,
-) -> Ground
+) -> Result<(), Ground>
     requires { (length text.now ≤ text_most) × (count ≡ length (words_at text.now rest)) × Shaped statement count × Listed names.now nodes }
     ensures { ground_number result ≡ fault_after (names_in names.now nodes) nodes (statement_meant statement (words_at text.now rest)) }
 {
-    if is_outside(statement, count) {
-        return Ground::Subset;
+    if is_outside(statement) {
+        return Err(Ground::Subset);
     }
     let parts = parts_of(statement, count);
     if !resolves(text, rest, parts, names, nodes) {
-        return Ground::Name;
+        return Err(Ground::Name);
     }
-    if !within_limits(text, rest, statement, count, parts, nodes) {
-        return Ground::Limit;
+    if !within_limits(text, rest, statement, parts, nodes) {
+        return Err(Ground::Limit);
     }
-    Ground::Good
+    Ok(())
 }

@@ -2,62 +2,40 @@
 // line of a refusal goes to standard error, so that a pipe has sheets only.
 #![tactic(auto)]
 
-use out_bytes::Outcome;
 use report::{print_refusal, read_full};
 use std::env::FillError;
 use std::io;
 use std::io::Write;
 use std::rt::Env;
 
-// An argument: a number, or anything else.
-#[derive(Clone, Copy)]
-enum Argument {
-    Number(u32),
-    Other,
-}
-
-// The number that decimal digits spell.
-fn number_of(word: &[u8]) -> Argument {
-    let mut value: u64 = 0;
-    if word.len() == 0 {
-        return Argument::Other;
+// The number that decimal digits spell, where it has 32 bits.
+fn number_of(word: &[u8]) -> Option<u32> {
+    if word.is_empty() {
+        return None;
     }
+    let mut value: u32 = 0;
     for digit in word {
-        let digit = *digit;
-        if digit < 48 {
-            return Argument::Other;
+        if !digit.is_ascii_digit() {
+            return None;
         }
-        if 57 < digit {
-            return Argument::Other;
-        }
-        if 4294967295 < value {
-            return Argument::Other;
-        }
-        value = value * 10 + (digit as u64 - 48);
+        value = value
+            .checked_mul(10)?
+            .checked_add(u32::from(*digit - b'0'))?;
     }
-    if 4294967295 < value {
-        return Argument::Other;
-    }
-    Argument::Number(value as u32)
+    Some(value)
 }
 
 // Argument i of the program; one that is missing or longer than 16 bytes is no number.
-fn argument_at(rt: &impl Env, i: usize) -> Argument {
+fn argument_at(rt: &impl Env, i: usize) -> Option<u32> {
     let mut word = [0u8; 16];
-    match rt.arg(i, &mut word) {
-        Ok(n) => number_of(&word[..n]),
-        Err(_) => Argument::Other,
-    }
+    let n = rt.arg(i, &mut word).ok()?;
+    number_of(&word[..n])
 }
 
 // Whether the program has an argument i.
 fn has_argument(rt: &impl Env, i: usize) -> bool {
     let mut word = [0u8; 16];
-    match rt.arg(i, &mut word) {
-        Ok(_) => true,
-        Err(FillError::TooLong) => true,
-        Err(FillError::NotPresent) => false,
-    }
+    !matches!(rt.arg(i, &mut word), Err(FillError::NotPresent))
 }
 
 fn usage<E: Write>(errors: &mut E) -> io::Result<()> {
@@ -84,13 +62,12 @@ fn run(
     let mut text = [0u8; 65537];
     let mut sheet = [0u8; 13068];
     let n = read_full(&mut rt.stdin(), &mut text)?;
-    let answer = importer::import_blif(&text[..n], leaves, top, horizon, table, level, &mut sheet);
-    match answer {
-        Outcome::Refused(why) => {
+    match importer::import_blif(&text[..n], leaves, top, horizon, table, level, &mut sheet) {
+        Ok(length) => write_first(&mut rt.stdout(), &sheet, length),
+        Err(why) => {
             print_refusal(&mut rt.stderr(), why)?;
             Ok(())
         }
-        Outcome::Written(length) => write_first(&mut rt.stdout(), &sheet, length),
     }
 }
 
@@ -99,24 +76,13 @@ fn main(rt: HostRuntime) -> io::Result<()> {
     if has_argument(&rt, 6) {
         return usage(&mut errors);
     }
-    let first = argument_at(&rt, 1);
-    let second = argument_at(&rt, 2);
-    let third = argument_at(&rt, 3);
-    let fourth = argument_at(&rt, 4);
-    let fifth = argument_at(&rt, 5);
-    let Argument::Number(leaves) = first else {
-        return usage(&mut errors);
-    };
-    let Argument::Number(top) = second else {
-        return usage(&mut errors);
-    };
-    let Argument::Number(horizon) = third else {
-        return usage(&mut errors);
-    };
-    let Argument::Number(table) = fourth else {
-        return usage(&mut errors);
-    };
-    let Argument::Number(level) = fifth else {
+    let (Some(leaves), Some(top), Some(horizon), Some(table), Some(level)) = (
+        argument_at(&rt, 1),
+        argument_at(&rt, 2),
+        argument_at(&rt, 3),
+        argument_at(&rt, 4),
+        argument_at(&rt, 5),
+    ) else {
         return usage(&mut errors);
     };
     run(rt, leaves, top, horizon, table, level)

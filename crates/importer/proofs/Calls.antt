@@ -4,30 +4,27 @@ use mathlib.Core.Path.{◌≡◌, refl, sym, subst, ap, ◌∙◌}
 use mathlib.Core.Bool.{true, false, ◌&&◌}
 use mathlib.Core.List.{List, []}
 use native.Mathlib.Omega.{arith}
+use Rattle.std.specs.Prelude.{Ok, Err}
 use lib.ListN.{length, take, replicate, length-replicate}
 use borrow.Author.Tests.{le-leb, lt-leb}
 use Rattle.maps.specs.Outcome as Maps
 use Rattle.maps.specs.Outcome.{refusal}
-use Rattle.maps.specs.Records.{Records, records_of}
+use Rattle.maps.specs.Records.{Records}
 use Rattle.maps.specs.Write.{writing}
 use Rattle.types.specs.Code.{number_of, place_of}
 use Rattle.types.specs.declared.Refusal.{Refusal}
 use Rattle.records.specs.Rows.{node_place, records_in}
 use Rattle.out_bytes.specs.Outcome.{Answered}
-use Rattle.blif.specs.Names.{Definition}
 use Rattle.blif.specs.Limits.{Caller, delay, callable, text_most, short}
 use Rattle.blif.specs.Model.{Model, found, model_of}
-use Rattle.blif.specs.Import.{is_output, sheet_of, undefined, importing}
-use Rattle.definitions.specs.Rows.{rows_from, ids_of}
+use Rattle.blif.specs.Import.{is_output, importing}
+use Rattle.definitions.specs.Rows.{rows_from}
 use Rattle.definitions.specs.Kept.{Kept}
+use Rattle.definitions.specs.declared.Circuit.{Circuit}
+use Rattle.names.specs.declared.Names.{Names}
 use Rattle.definitions.proofs.Keeping.{kept-size}
-use Rattle.names.proofs.Tables.{listed-none}
 use Rattle.model.specs.Turns.{ModelRead}
-use Rattle.model.specs.declared.reading.Model as M
-use Rattle.model.specs.declared.reading.Model.TheVariants as Read
 use Rattle.outputs.specs.Marks.{OutputsMarked}
-use Rattle.outputs.specs.declared.Marked.{Marked}
-use Rattle.outputs.specs.declared.Marked.TheVariants as Is
 use Rattle.importer.proofs.SheetLaws.{records-of, import-writes, import-undefined, import-faulty, import-first}
 
 -- an answer that is one outcome's is an equal one's
@@ -39,11 +36,10 @@ short-enough text l = le-leb (length text) text_most l
 
 module _ (text : List ℕ) (c : Caller) (M : Model) (f : model_of text ≡ found M) (h : callable c ≡ true) (l : length text ≤ text_most) where
   -- the rows that are marked and the operands are those of the sheet's records
-  pub all-marked : {names nodes operands : List ℕ} {n u : ℕ} (after : List ℕ) (m : Marked) → m ≡ Is.All → Kept (delay c) M.definitions names nodes operands n u
-      → OutputsMarked (delay c) M after m → (room : ℕ)
+  pub all-marked : {names : Names} {nodes operands : List ℕ} {n u : ℕ} (after : List ℕ) → Kept (delay c) M.definitions names nodes operands n u
+      → OutputsMarked (delay c) M after (Ok tt) → (room : ℕ)
       → writing (records_in c.leaves c.top c.horizon (take (node_place n) after) (take u operands) [] 1 []) room ≡ importing text c room
-  all-marked {operands = operands} {n = n} {u = u} after m e k o room =
-      let q = subst (OutputsMarked (delay c) M after) e o in
+  all-marked {operands = operands} {n = n} {u = u} after k q room =
       ap (λ (x : ℕ). writing (records_in c.leaves c.top c.horizon (take (node_place x) after) (take u operands) [] 1 []) room) (sym (kept-size k))
       ∙ ap (λ (rows : List ℕ). writing (records_in c.leaves c.top c.horizon rows (take u operands) [] 1 []) room) q.1
       ∙ ap (λ (ids : List ℕ). writing (records_in c.leaves c.top c.horizon (rows_from (delay c) (is_output M.outputs) 0 M.definitions) ids [] 1 []) room) k.ids
@@ -51,24 +47,14 @@ module _ (text : List ℕ) (c : Caller) (M : Model) (f : model_of text ≡ found
       ∙ sym (import-writes text c M f q.0 h (short-enough text l) room)
 
   -- an output that is not defined
-  pub one-undefined : (after : List ℕ) (m : Marked) (p : ℕ) → m ≡ Is.Undefined p → OutputsMarked (delay c) M after m → (room : ℕ) → refusal 10 p ≡ importing text c room
-  one-undefined after m p e o room =
-      let q = subst (OutputsMarked (delay c) M after) e o in
-      ap (refusal 10) (sym q.3) ∙ sym (import-undefined text c M q.0 q.1 f q.2 h (short-enough text l) room)
-
--- nothing is kept at first
-pub nothing-kept : (d : ℕ) → Kept d [] (replicate 9216 0) (replicate 1536 0) (replicate 1536 0) 0 0
-nothing-kept d =
-    record { listed = listed-none; named = refl; rows = refl; ids = refl; closed = refl; few = omega arith; wide = length-replicate {A = ℕ} 1536 0; long = length-replicate {A = ℕ} 1536 0 }
+  pub one-undefined : (after : List ℕ) (w : Refusal) → OutputsMarked (delay c) M after (Err w) → (room : ℕ) → refusal (number_of w) (place_of w) ≡ importing text c room
+  one-undefined after w q room =
+      ap (λ (v : Refusal). refusal (number_of v) (place_of v)) q.3 ∙ sym (import-undefined text c M q.0 q.1 f q.2 h (short-enough text l) room)
 
 -- the model was refused
-pub refused-model : (text : List ℕ) (c : Caller) (d : ℕ) (names nodes operands : List ℕ) (r : M.Model) (w : Refusal) → r ≡ Read.Refused w → ModelRead text d names nodes operands r → callable c ≡ true
+pub refused-model : (text : List ℕ) (c : Caller) (d : ℕ) (kept : Circuit) (w : Refusal) → ModelRead text d kept (Err w) → callable c ≡ true
     → length text ≤ text_most → (room : ℕ) → refusal (number_of w) (place_of w) ≡ importing text c room
-refused-model text c d names nodes operands r w e h k l room =
-    sym (import-faulty text c (number_of w) (place_of w) (subst (ModelRead text d names nodes operands) e h) k (short-enough text l) room)
-
-pub kept-delay : {names nodes operands : List ℕ} {d e n u : ℕ} {ds : List Definition} → d ≡ e → Kept d ds names nodes operands n u → Kept e ds names nodes operands n u
-kept-delay {names} {nodes} {operands} {n = n} {u = u} {ds = ds} q k = subst (λ (x : ℕ). Kept x ds names nodes operands n u) q k
+refused-model text c d kept w h k l room = sym (import-faulty text c (number_of w) (place_of w) h k (short-enough text l) room)
 
 -- what is looked at first
 pub barred-caller : (text : List ℕ) (c : Caller) → callable c ≡ false → (room : ℕ) → refusal 11 0 ≡ importing text c room

@@ -1,6 +1,6 @@
 -- Which logic nodes have a fitting cut, and the lowest that has none.
 use Prim.Native.Nat.{ℕ, zero, suc, ◌+◌, ◌≤◌, ◌<◌}
-use mathlib.Core.Path.{◌≡◌, refl, sym, subst, ap, ◌∙◌}
+use mathlib.Core.Path.{◌≡◌, refl, sym, ap, ◌∙◌}
 use mathlib.Core.Bool.{Bool, true, false, ◌&&◌}
 use mathlib.Core.List.Memᴰ
 use mathlib.Core.List.{List, [], ◌∷◌, ◌++◌, Memᴰ}
@@ -8,22 +8,20 @@ use mathlib.Core.Logic.{◌⊎◌, inl, inr}
 use native.Mathlib.Omega.{arith}
 use native.Mathlib.Nat.{not-suc-le-zero}
 use lib.Dec.{eqb}
-use lib.ListN.{length, get_or, set, replicate, length-set, length-replicate, get_or-replicate}
-use lib.Seq.{get_or-set_other}
+use lib.ListN.{length, get_or, replicate, length-replicate, get_or-replicate}
 use borrow.Author.Tests.{ne_eqb}
-use Rattle.maps.specs.Sheet.{Sheet, logic, node, size, is_logic}
+use Rattle.maps.specs.Sheet.{Sheet, node, size, is_logic}
 use Rattle.maps.specs.Lists.{keep, below}
 use Rattle.maps.specs.Cut.{logic_node, FittingCut, fitting_cuts}
 use Rattle.maps.specs.WellFormed.{WellFormed}
 use Rattle.maps.proofs.Over.{last_or}
 use Rattle.maps.proofs.Member.{everywhere, keep_append}
-use Rattle.maps.proofs.Enumerate.{clash, complete, sound}
+use Rattle.maps.proofs.Enumerate.{complete, sound}
 use Rattle.maps.proofs.Planned.{ordered}
 use Rattle.rows.specs.Table.{kind_at, Tabled}
-use Rattle.rows.proofs.Tables.{kind-tabled}
+use Rattle.rows.proofs.SheetTables.{kind-tabled}
 use Rattle.cut.specs.Question.{code_for, Asked}
 use Rattle.rows.specs.Cells.{Ends}
-use Rattle.rows.proofs.Cells.{filled_more}
 use Rattle.rows.proofs.Cells.{succeeded, failed}
 use Rattle.bound.specs.Lookup.{Beside}
 use Rattle.bound.specs.Going.{Keeps}
@@ -52,11 +50,6 @@ keep-first p (suc n) r l h e = go (λ m. keep-first p n r m h e) (last_or r n l)
 
 -- ---- one node
 
--- a node that is no logic node
-pub fit-other : (S : Sheet) (graph : List ℕ) (v k : ℕ) (kept : List ℕ) → v < 256 → is_logic (kind_at graph v) ≡ false → FitTest S graph v k kept true
-fit-other S graph v k kept l h =
-    record { test = λ well tabled lt e logic. clash (sym h ∙ ap is_logic (kind-tabled S graph tabled v l) ∙ logic) }
-
 -- the open codes below u are written
 pub record OpenTo (graph code : List ℕ) (v u : ℕ) : Type 0 where
   pub wide : length code ≡ 256
@@ -66,16 +59,6 @@ pub record OpenTo (graph code : List ℕ) (v u : ℕ) : Type 0 where
 pub open_none : (graph : List ℕ) (v : ℕ) → v < 256 → OpenTo graph (replicate 256 0) v 0
 open_none graph v l =
     record { wide = length-replicate {A = ℕ} 256 0; codes = λ i m. absurd (not-suc-le-zero m); own = get_or-replicate {A = ℕ} 256 v 0 0 l }
-
-pub open_more : (graph code : List ℕ) (v u x : ℕ) → u < v → v < 256 → x ≡ code_for (is_logic (kind_at graph u)) true → OpenTo graph code v u
-    → OpenTo graph (set code u x) v (u + 1)
-open_more graph code v u x l m e o =
-    record {
-      wide = length-set code u x ∙ o.wide;
-      codes = subst (λ (y : ℕ). (i : ℕ) → i < u + 1 → get_or (set code u y) i 0 ≡ code_for (is_logic (kind_at graph i)) true) (sym e)
-          (filled_more (λ i. code_for (is_logic (kind_at graph i)) true) code u (let w = o.wide in omega arith) o.codes);
-      own = get_or-set_other code u v x 0 (λ q. omega arith) ∙ o.own;
-    }
 
 -- under open codes every fitting cut is allowed
 pub fit-tried : (S : Sheet) (graph code : List ℕ) (v k : ℕ) (kept : List ℕ) (r : Bool) → v < 256 → is_logic (kind_at graph v) ≡ true
@@ -139,9 +122,6 @@ has-none S v e h = rw e (go (fitting_cuts S v) (λ c m. m))
 -- a fitting cut of each logic node below v is kept
 pub record KeptTo (S : Sheet) (graph : List ℕ) (n k : ℕ) (kept : List ℕ) (v : ℕ) : Type 0 where
   pub upto : WellFormed S → Tabled S graph → n ≡ size S → k ≡ S.leaves → (u : ℕ) → u < v → logic_node S u ≡ true → Keeps S kept u
-
-pub kept-none : (S : Sheet) (graph : List ℕ) (n k : ℕ) (kept : List ℕ) → KeptTo S graph n k kept 0
-kept-none S graph n k kept = record { upto = λ well tabled e q u l. absurd (omega arith) }
 
 keeps-beside : (S : Sheet) (kept more : List ℕ) (u v : ℕ) → WellFormed S → u < v → Beside v kept more → Keeps S kept u → Keeps S more u
 keeps-beside S kept more u v well l b h =

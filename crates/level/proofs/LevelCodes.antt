@@ -1,5 +1,5 @@
 -- The question which cuts of v carry a label: its codes, and what its answer says.
-use Prim.Native.Nat.{ℕ, ◌+◌, ◌≤◌, ◌<◌}
+use Prim.Native.Nat.{ℕ, ◌+◌, ◌<◌}
 use mathlib.Core.Path.{◌≡◌, refl, sym, subst, ap, ◌∙◌}
 use mathlib.Core.Bool.{Bool, true, false}
 use mathlib.Core.List.{List}
@@ -7,13 +7,13 @@ use native.Mathlib.Omega.{arith}
 use lib.ListN.{length, get_or, set}
 use lib.Seq.{get_or-set_other}
 use Rattle.maps.specs.Label.{Label, leq, plus, ready, ◌≼◌}
-use Rattle.maps.specs.Sheet.{Sheet, Kind, is_logic, logic, node, size, latency, clock_to_q}
+use Rattle.maps.specs.Sheet.{Sheet, is_logic, node, latency, clock_to_q}
 use Rattle.maps.specs.Cut.{cut}
 use Rattle.maps.proofs.Order.{leq-true, ≼-leq}
 use Rattle.maps.proofs.Member.{All-at, All-of, All-get}
 use Rattle.rows.specs.Table.{kind_at, delay_in, latency_in, clock_in}
 use Rattle.rows.specs.declared.Header as R
-use Rattle.rows.proofs.Tables.{kind-tabled}
+use Rattle.rows.proofs.SheetTables.{kind-tabled}
 use Rattle.cut.specs.Question.{code_for, Asked}
 use Rattle.rows.proofs.Cells.{filled_more}
 use Rattle.maps.specs.Legal.{arrives}
@@ -36,11 +36,6 @@ module _ (graph steps levels : List ℕ) (v top : ℕ) (a : Label) where
     pub done : (i : ℕ) → i < u → get_or code i 0 ≡ code_by i
     pub own : get_or code v 0 ≡ 0
 
--- the code of a node, from what is known of its kind and of the label at which it arrives
-pub code-from : {r : ℕ} (kind own : Kind) (b : Bool) (x a by : Label) → kind ≡ own → b ≡ leq x by → x ≡ a → r ≡ code_for (is_logic kind) b → r ≡ code_for (is_logic own) (leq a by)
-code-from kind own b x a by k t h e =
-    e ∙ ap (λ (w : Kind). code_for (is_logic w) b) k ∙ ap (code_for (is_logic own)) (t ∙ ap (λ (w : Label). leq w by) h)
-
 pub code_is : (graph steps levels : List ℕ) (v top u delay r : ℕ) (a : Label) → delay ≡ delay_in graph v
     → r ≡ code_for (is_logic (kind_at graph u)) (leq (arrival_in graph steps levels top delay u) a) → r ≡ code_by graph steps levels v top a u
 code_is graph steps levels v top u delay r a d e = e ∙ ap (λ (n : ℕ). code_for (is_logic (kind_at graph u)) (leq (arrival_in graph steps levels top n u) a)) d
@@ -57,9 +52,6 @@ module _ {graph steps levels : List ℕ} {v top : ℕ} {a : Label} {code : List 
             (filled_more (code_by graph steps levels v top a) code u m h.done);
         own = get_or-set_other code u v r 0 (λ z. omega arith) ∙ h.own;
       }
-
-  pub coded-all : {u : ℕ} → v ≤ u → Coded graph steps levels v top a code u → CodesBy graph steps levels code v top a
-  coded-all l h = record { below = λ i m. h.done i (omega arith); own = h.own }
 
 module _ {S : Sheet} {graph : List ℕ} {v : ℕ} {limits : R.Header} (placed : Placed S graph v limits) where
   pub placed-in : v < 256

@@ -7,7 +7,6 @@ use native.Mathlib.Omega.{arith}
 use lib.ListN.{length, get_or}
 use Rattle.maps.specs.Label.{Label, label}
 use Rattle.maps.specs.Sheet.{Sheet, Kind, input, logic, box, is_logic, node}
-use Rattle.maps.specs.Limits.{top_range}
 use Rattle.maps.specs.Lists.{All}
 use Rattle.maps.specs.Cut.{cut}
 use Rattle.maps.proofs.Member.{All-of, All-get}
@@ -33,12 +32,6 @@ logic-kind (box lat q) e = let z : ◌≡◌ {A = ℕ} 0 1 = cc in absurd (omega
 module _ {S : Sheet} {graph : List ℕ} {v : ℕ} {limits : R.Header} (placed : Placed S graph v limits) where
   pub placed-kind : (node S v).kind ≡ logic
   placed-kind = logic-kind (node S v).kind placed.logic
-
-  pub placed-top : limits.top ≤ top_range.high
-  placed-top = omega (arith, placed.tops, placed.well.top.most)
-
-  pub placed-few : limits.leaves ≤ 7
-  placed-few = omega (arith, placed.leaves, placed.well.leaves.most)
 
   module _ {kept : List ℕ} (h : Keeps S kept v) where
     -- the kept leaves are below v

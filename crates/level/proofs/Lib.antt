@@ -3,3 +3,4 @@ pub mod CutTests
 pub mod LevelCodes
 pub mod LevelSpan
 pub mod LevelLabel
+pub mod Numbers

@@ -1,3 +1,4 @@
 pub mod Carry
 pub mod Cuts
+pub mod Numbers
 pub mod Span

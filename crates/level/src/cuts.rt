@@ -1,5 +1,5 @@
-// Fitting cuts, and the table of the cuts that are kept. Where the count and the leaves of a cut stand in it is known here alone.
-ghost use Rattle.std.specs.Prelude.{◌≡◌, Bool, true, false, ℕ, ◌<◌, ◌≤◌, get_or, length};
+// Fitting cuts, and the table of the cuts that are kept. Contracts see the table as one list of numbers.
+ghost use Rattle.std.specs.Prelude.{◌≡◌, Bool, true, false, ℕ, ◌<◌, ◌≤◌, IfSome, unwrap_or, get_or, length, replicate, take};
 ghost use Rattle.maps.specs.Sheet.{Sheet, is_logic};
 ghost use Rattle.rows.specs.Table.{kind_at, Falling};
 ghost use Rattle.cut.specs.Question.{code_for, Asked};
@@ -8,46 +8,87 @@ ghost use Rattle.level.specs.Cuts.{Stored, TriedCut, FitTest, Lowest};
 
 use cut::{ask, code_for};
 use rows::{Graph, kind_in};
+use std::marker::Model;
 use types::Kind;
 
-// A row for each of 256 nodes: how many leaves its cut has, then the leaves.
-pub type Cuts = [u32; 2048];
-
-// The numbers of a row, and where the leaves begin in it; the count stands first.
-const ROW: usize = 8;
-
-const LEAVES: usize = 1;
-
-// How many leaves the cut of v has.
-pub fn leaf_count_in(cuts: &Cuts, v: u32) -> u32
-    requires { v < 256 }
-    ensures { result ≡ count_of cuts.now v }
-{
-    cuts[v as usize * ROW]
+// The cut of a node: how many leaves it has, and the leaves.
+#[derive(Clone, Copy)]
+struct Cut {
+    count: u32,
+    leaves: [u32; 7],
 }
 
-// The leaf j of v's cut.
-pub fn leaf_in(cuts: &Cuts, v: u32, j: u32) -> u32
-    requires { (v < 256) × (j < 7) }
-    ensures { result ≡ leaf_of cuts.now v j }
-{
-    cuts[v as usize * ROW + LEAVES + j as usize]
+// A cut for each of 256 nodes.
+#[derive(Drop)]
+pub struct Cuts {
+    rows: [Cut; 256],
 }
 
-// Keeps the first count numbers of cut for v.
-pub fn keep_cut(cut: &[u32; 8], kept: &mut Cuts, v: u32, count: u32)
-    requires v_bound { (v < 256) × (count ≤ 7) }
-    requires kept_len { length kept.old ≡ 2048 }
-    ensures stored { Stored cut.now kept.old kept.new v count }
-    ensures cut_len { (length cut.now ≡ 8) × (length kept.new ≡ 2048) }
-{
-    let leaves: &[u32] = cut;
-    let base = v as usize * ROW;
-    kept[base] = count;
-    let mut j: usize = 0;
-    while j < count as usize {
-        kept[base + LEAVES + j] = leaves[j];
-        j += 1;
+impl Model for Cuts {
+    ghost use Rattle.std.specs.Prelude.{◌≡◌, ℕ, List, length};
+    ghost use Rattle.level.specs.Numbers.{numbers};
+
+    ghost Value = { List ℕ };
+
+    ghost view = { λ a. numbers a.rows };
+
+    ghost invariant = { λ a. length a.rows ≡ 256 };
+}
+
+impl Cut {
+    // A cut of count leaves, which are the first numbers of cut.
+    fn new(cut: &[u32; 8], count: u32) -> Cut
+        ensures { (result.count ≡ count) × (result.leaves ≡ take 7 cut.now) }
+    {
+        let mut leaves = [0; 7];
+        leaves.copy_from_slice(&cut[..7]);
+        Cut { count, leaves }
+    }
+}
+
+impl Cuts {
+    // A table in which no cut has leaves.
+    pub fn new() -> Cuts
+        ensures { result ≡ replicate 2048 0 }
+    {
+        let none = Cut {
+            count: 0,
+            leaves: [0; 7],
+        };
+        Cuts { rows: [none; 256] }
+    }
+
+    // Whatever was kept, the table has a row for each of 256 nodes.
+    pub fn check_rows(&self)
+        ensures { length self.now ≡ 2048 }
+    {
+        let rows: &[Cut] = &self.rows;
+        prove!(rows.len() == 256);
+    }
+
+    // How many leaves the cut of v has.
+    pub fn leaf_count_in(&self, v: u32) -> u32
+        requires { v < 256 }
+        ensures { result ≡ count_of self.now v }
+    {
+        self.rows[v as usize].count
+    }
+
+    // The leaf j of v's cut.
+    pub fn leaf_in(&self, v: u32, j: u32) -> u32
+        requires { (v < 256) × (j < 7) }
+        ensures { result ≡ leaf_of self.now v j }
+    {
+        self.rows[v as usize].leaves[j as usize]
+    }
+
+    // Keeps the first count numbers of cut for v.
+    pub fn keep_cut(&mut self, cut: &[u32; 8], v: u32, count: u32)
+        requires v_bound { (v < 256) × (count ≤ 7) }
+        ensures stored { Stored cut.now self.old self.new v count }
+        ensures cut_len { (length cut.now ≡ 8) × (length self.new ≡ 2048) }
+    {
+        self.rows[v as usize] = Cut::new(cut, count);
     }
 }
 
@@ -55,19 +96,20 @@ pub fn keep_cut(cut: &[u32; 8], kept: &mut Cuts, v: u32, count: u32)
 pub fn try_cut(graph: &Graph, code: &[u8; 256], kept: &mut Cuts, v: u32, k: u32) -> bool
     requires falling { Falling graph.now }
     requires v_bound { (v < 256) × (k ≤ 7) }
-    requires kept_len { length kept.old ≡ 2048 }
     ensures tried_cut { (S : Sheet) (may : ℕ → Bool) → Asked S may v graph.now code.now → TriedCut S may v k kept.new result }
     ensures beside { Beside v kept.old kept.new }
     ensures kept_len_2 { length kept.new ≡ 2048 }
     ensures kept_unchanged { result ≡ false → kept.new ≡ kept.old }
 {
+    kept.check_rows();
     let mut cut = [0u32; 8];
-    let found = ask(graph, code, &mut cut, v, k);
-    if found > k {
-        return false;
+    match ask(graph, code, &mut cut, v, k) {
+        Some(count) => {
+            kept.keep_cut(&cut, v, count);
+            true
+        }
+        None => false,
     }
-    keep_cut(&cut, kept, v, found);
-    true
 }
 
 // The codes of the question about v under which every node below it may be a leaf.
@@ -77,11 +119,8 @@ pub fn open_codes(graph: &Graph, code: &mut [u8; 256], v: u32)
     ensures v_after { get_or code.new v 0 ≡ 0 }
 {
     *code = [0; 256];
-    let mut u: u32 = 0;
-    while u < v {
-        let kind = kind_in(graph, u);
-        code[u as usize] = code_for(kind, true);
-        u += 1;
+    for u in 0..v {
+        code[u as usize] = code_for(kind_in(graph, u), true);
     }
 }
 
@@ -94,30 +133,28 @@ pub fn has_cut(graph: &Graph, kept: &mut Cuts, v: u32, k: u32) -> bool
     ensures beside { Beside v kept.old kept.new }
     ensures kept_len_2 { length kept.new ≡ 2048 }
 {
-    let kind = kind_in(graph, v);
-    match kind {
-        Kind::Input => return true,
-        Kind::Logic => {}
-        Kind::Box { .. } => return true,
+    match kind_in(graph, v) {
+        Kind::Input | Kind::Box { .. } => true,
+        Kind::Logic => {
+            let mut code = [0u8; 256];
+            open_codes(graph, &mut code, v);
+            try_cut(graph, &code, kept, v, k)
+        }
     }
-    let mut code = [0u8; 256];
-    open_codes(graph, &mut code, v);
-    try_cut(graph, &code, kept, v, k)
 }
 
-// The lowest logic node without a fitting cut, or n where each has one; then a fitting cut of each is kept.
-pub fn lowest_cutless(graph: &Graph, kept: &mut Cuts, n: u32, k: u32) -> u32
+// The lowest of the first n nodes that is a logic node without a fitting cut, or none where each logic node has one; then a fitting cut of each is kept.
+pub fn lowest_cutless(graph: &Graph, kept: &mut Cuts, n: u32, k: u32) -> Option<u32>
     requires falling { Falling graph.now }
     requires n_bound { (n ≤ 256) × (k ≤ 7) }
-    ensures { (S : Sheet) → Lowest S graph.now n k kept.new result }
+    ensures below { IfSome result (λ v. v < n) }
+    ensures lowest { (S : Sheet) → Lowest S graph.now n k kept.new (unwrap_or result n) }
 {
-    *kept = [0; 2048];
-    let mut v: u32 = 0;
-    while v < n {
+    *kept = Cuts::new();
+    for v in 0..n {
         if !has_cut(graph, kept, v, k) {
-            return v;
+            return Some(v);
         }
-        v += 1;
     }
-    n
+    None
 }

@@ -1,5 +1,5 @@
 // The label of a logic node in its turn: the least level of its step that a fitting cut carries, or the next step.
-ghost use Rattle.std.specs.Prelude.{◌≡◌, false, ℕ, ◌+◌, ◌-◌, ◌<◌, ◌≤◌, length};
+ghost use Rattle.std.specs.Prelude.{◌≡◌, false, ℕ, ◌+◌, ◌<◌, ◌≤◌, length};
 ghost use Rattle.maps.specs.Label.{leq};
 ghost use Rattle.maps.specs.Sheet.{Sheet, is_logic};
 ghost use Rattle.types.specs.Code.{label_of};
@@ -12,8 +12,8 @@ ghost use Rattle.bound.specs.Going.{Keeps, Based};
 ghost use Rattle.level.specs.Carry.{Leaves, CodesBy, Placed};
 ghost use Rattle.level.specs.Span.{TriedLevel, Narrowed, Levelled};
 
-use crate::cuts::{Cuts, leaf_count_in, leaf_in, try_cut};
-use bound::{Levels, Steps, arrival, level_in};
+use crate::cuts::{Cuts, try_cut};
+use bound::{Labels, level_in};
 use cut::code_for;
 use rows::{Graph, Header, delay_in, kind_in};
 use types::{Label, Level, Step};
@@ -26,81 +26,62 @@ pub struct Span {
     pub stride: u32,
 }
 
+impl Span {
+    // A level of the span: its stride below the high end, or the low end.
+    pub fn between(self) -> Level
+        requires { self.low.0 < self.high.0 }
+        ensures { (self.low.0 ≤ result.0) × (result.0 < self.high.0) }
+    {
+        if self.stride == 0 || self.high.0 - self.low.0 < self.stride {
+            return self.low;
+        }
+        Level(self.high.0 - self.stride)
+    }
+}
+
 // The least level of step s by which the leaves of v's kept cut arrive, or top + 1.
-pub fn carried(
-    graph: &Graph,
-    steps: &Steps,
-    levels: &Levels,
-    kept: &Cuts,
-    v: u32,
-    top: Level,
-    s: Step,
-) -> Level
-    requires leaves { Leaves graph.now steps.now kept.now v }
+pub fn carried(graph: &Graph, labels: &Labels, kept: &Cuts, v: u32, top: Level, s: Step) -> Level
+    requires leaves { Leaves graph.now labels.now.steps kept.now v }
     requires top_bound { top.0 < 4294967295 }
-    ensures { Carrying top.0 s.0 (count_of kept.now v) (λ j. arrival_in graph.now steps.now levels.now top.0 (delay_in graph.now v) (leaf_of kept.now v j)) result.0 }
+    ensures { Carrying top.0 s.0 (count_of kept.now v) (λ j. arrival_in graph.now labels.now.steps labels.now.levels top.0 (delay_in graph.now v) (leaf_of kept.now v j)) result.0 }
 {
     let delay = delay_in(graph, v);
-    let count = leaf_count_in(kept, v);
     let mut most = Level(0);
-    let mut j: u32 = 0;
-    while j < count {
-        let u = leaf_in(kept, v, j);
-        let a = arrival(graph, steps, levels, u, delay, top);
-        let l = level_in(a, s, top);
-        most = most.higher(l);
-        j += 1;
+    for j in 0..kept.leaf_count_in(v) {
+        let u = kept.leaf_in(v, j);
+        let a = labels.arrival(graph, u, delay, top);
+        most = most.higher(level_in(a, s, top));
     }
     most
 }
 
 // The code of u in the question which cuts of a node of the given delay carry a label.
-pub fn code_of(
-    graph: &Graph,
-    steps: &Steps,
-    levels: &Levels,
-    u: u32,
-    delay: Level,
-    top: Level,
-    by: Label,
-) -> u8
+pub fn code_of(graph: &Graph, labels: &Labels, u: u32, delay: Level, top: Level, by: Label) -> u8
     requires u_bound { u < 256 }
-    requires soon { Soon graph.now steps.now u }
-    ensures { result ≡ code_for (is_logic (kind_at graph.now u)) (leq (arrival_in graph.now steps.now levels.now top.0 delay.0 u) (label_of by)) }
+    requires soon { Soon graph.now labels.now.steps u }
+    ensures { result ≡ code_for (is_logic (kind_at graph.now u)) (leq (arrival_in graph.now labels.now.steps labels.now.levels top.0 delay.0 u) (label_of by)) }
 {
-    let a = arrival(graph, steps, levels, u, delay, top);
-    let kind = kind_in(graph, u);
-    code_for(kind, a.at_most(by))
+    let a = labels.arrival(graph, u, delay, top);
+    code_for(kind_in(graph, u), a.at_most(by))
 }
 
 // The codes of the question which cuts of v carry a label.
-pub fn codes(
-    graph: &Graph,
-    steps: &Steps,
-    levels: &Levels,
-    code: &mut [u8; 256],
-    v: u32,
-    top: Level,
-    by: Label,
-)
+pub fn codes(graph: &Graph, labels: &Labels, code: &mut [u8; 256], v: u32, top: Level, by: Label)
     requires v_bound { v < 256 }
-    requires by_index { (u : ℕ) → u < v → Soon graph.now steps.now u }
-    ensures { CodesBy graph.now steps.now levels.now code.new v top.0 (label_of by) }
+    requires by_index { (u : ℕ) → u < v → Soon graph.now labels.now.steps u }
+    ensures { CodesBy graph.now labels.now.steps labels.now.levels code.new v top.0 (label_of by) }
 {
     *code = [0; 256];
     let delay = delay_in(graph, v);
-    let mut u: u32 = 0;
-    while u < v {
-        code[u as usize] = code_of(graph, steps, levels, u, delay, top, by);
-        u += 1;
+    for u in 0..v {
+        code[u as usize] = code_of(graph, labels, u, delay, top, by);
     }
 }
 
 // Seeks a fitting cut of v that carries a label, and keeps it.
 pub fn try_level(
     graph: &Graph,
-    steps: &Steps,
-    levels: &Levels,
+    labels: &Labels,
     kept: &mut Cuts,
     limits: Header,
     v: u32,
@@ -108,50 +89,27 @@ pub fn try_level(
 ) -> bool
     requires falling { Falling graph.now }
     requires v_bound { (v < 256) × (limits.leaves ≤ 7) }
-    requires by_index { (u : ℕ) → u < v → Soon graph.now steps.now u }
-    requires kept_len { length kept.old ≡ 2048 }
-    ensures tried_level { (S : Sheet) → Placed S graph.now v limits → TriedLevel S graph.now steps.now levels.now kept.new v limits.top (label_of by) result }
+    requires by_index { (u : ℕ) → u < v → Soon graph.now labels.now.steps u }
+    ensures tried_level { (S : Sheet) → Placed S graph.now v limits → TriedLevel S graph.now labels.now.steps labels.now.levels kept.new v limits.top (label_of by) result }
     ensures beside { Beside v kept.old kept.new }
-    ensures kept_len_2 { length kept.new ≡ 2048 }
     ensures kept_unchanged { result ≡ false → kept.new ≡ kept.old }
 {
     let mut code = [0u8; 256];
-    codes(graph, steps, levels, &mut code, v, Level(limits.top), by);
+    codes(graph, labels, &mut code, v, Level(limits.top), by);
     try_cut(graph, &code, kept, v, limits.leaves)
-}
-
-// A level of the span: its stride below the high end, or the low end.
-pub fn between(span: Span) -> Level
-    requires { span.low.0 < span.high.0 }
-    ensures { (span.low.0 ≤ result.0) × (result.0 < span.high.0) }
-{
-    let low = span.low;
-    let high = span.high;
-    let wide = high.0 - low.0;
-    if span.stride == 0 {
-        return low;
-    }
-    if wide < span.stride {
-        return low;
-    }
-    Level(high.0 - span.stride)
 }
 
 // Twice a stride, up to a limit.
 pub fn wider(stride: u32) -> u32
     ensures { (stride ≤ result) × (result ≤ stride + stride) }
 {
-    if stride > 32768 {
-        return stride;
-    }
-    stride * 2
+    if stride > 32768 { stride } else { stride * 2 }
 }
 
 // Asks about one level of the span in step s.
 pub fn narrow(
     graph: &Graph,
-    steps: &Steps,
-    levels: &Levels,
+    labels: &Labels,
     kept: &mut Cuts,
     limits: Header,
     v: u32,
@@ -159,58 +117,48 @@ pub fn narrow(
     span: Span,
 ) -> Span
     requires placed { (S : Sheet) × Placed S graph.now v limits }
-    requires by_index { (u : ℕ) → u < v → Soon graph.now steps.now u }
-    requires kept_len { length kept.old ≡ 2048 }
+    requires by_index { (u : ℕ) → u < v → Soon graph.now labels.now.steps u }
     requires low_lt_high { (span.low.0 < span.high.0) × (span.high.0 ≤ limits.top + 1) }
-    ensures narrowed { Narrowed graph.now steps.now levels.now kept.old kept.new v limits s.0 span.low.0 span.high.0 result.low.0 result.high.0 }
-    ensures kept_len_2 { length kept.new ≡ 2048 }
+    ensures { Narrowed graph.now labels.now.steps labels.now.levels kept.old kept.new v limits s.0 span.low.0 span.high.0 result.low.0 result.high.0 }
 {
-    let low = span.low;
-    let l = between(span);
-    let by = Label::at(s, l);
-    if !try_level(graph, steps, levels, kept, limits, v, by) {
-        let high = span.high;
-        let above = Level(l.0 + 1);
+    let l = span.between();
+    if !try_level(graph, labels, kept, limits, v, Label::at(s, l)) {
         return Span {
-            low: above,
-            high,
+            low: Level(l.0 + 1),
             stride: 1,
+            ..span
         };
     }
-    let most = carried(graph, steps, levels, kept, v, Level(limits.top), s);
-    let high = most.higher(low);
-    let stride = wider(span.stride);
-    Span { low, high, stride }
+    let most = carried(graph, labels, kept, v, Level(limits.top), s);
+    Span {
+        high: most.higher(span.low),
+        stride: wider(span.stride),
+        ..span
+    }
 }
 
 // The least level from base on that a fitting cut of v carries in base's step, or top + 1; the cut is kept.
 pub fn least_level(
     graph: &Graph,
-    steps: &Steps,
-    levels: &Levels,
+    labels: &Labels,
     kept: &mut Cuts,
     limits: Header,
     v: u32,
     base: Label,
 ) -> Level
     requires placed { (S : Sheet) × Placed S graph.now v limits × Keeps S kept.old v }
-    requires by_index { (u : ℕ) → u < v → Soon graph.now steps.now u }
-    requires kept_len { length kept.old ≡ 2048 }
+    requires by_index { (u : ℕ) → u < v → Soon graph.now labels.now.steps u }
     requires level_bound { base.level.0 ≤ limits.top + 1 }
-    ensures levelled { Levelled graph.now steps.now levels.now kept.old kept.new v limits base.step.0 base.level.0 result.0 }
-    ensures kept_len_2 { length kept.new ≡ 2048 }
+    ensures { Levelled graph.now labels.now.steps labels.now.levels kept.old kept.new v limits base.step.0 base.level.0 result.0 }
 {
-    let s = base.step;
-    let low = base.level;
-    let most = carried(graph, steps, levels, kept, v, Level(limits.top), s);
-    let high = most.higher(low);
+    let most = carried(graph, labels, kept, v, Level(limits.top), base.step);
     let mut span = Span {
-        low,
-        high,
+        low: base.level,
+        high: most.higher(base.level),
         stride: 1,
     };
     while span.low.0 < span.high.0 {
-        span = narrow(graph, steps, levels, kept, limits, v, s, span);
+        span = narrow(graph, labels, kept, limits, v, base.step, span);
     }
     span.high
 }
@@ -218,26 +166,25 @@ pub fn least_level(
 // The label of the logic node v, from its base label on.
 pub fn table_label(
     graph: &Graph,
-    steps: &Steps,
-    levels: &Levels,
+    labels: &Labels,
     kept: &mut Cuts,
     limits: Header,
     v: u32,
     base: Label,
 ) -> Label
     requires placed { (S : Sheet) × Placed S graph.now v limits × Keeps S kept.old v }
-    requires by_index { (u : ℕ) → u < v → Soon graph.now steps.now u }
-    requires kept_len { length kept.old ≡ 2048 }
+    requires by_index { (u : ℕ) → u < v → Soon graph.now labels.now.steps u }
     requires level_le_top { base.level.0 ≤ limits.top }
-    ensures settles { (S : Sheet) (bound : ℕ → ℕ) → Placed S graph.now v limits → Keeps S kept.old v → Pass S bound (label_in steps.now levels.now) v → Based S (label_in steps.now levels.now) v (label_of base)
-        → Settles S (label_in steps.now levels.now) v (label_of result) × Keeps S kept.new v }
+    ensures settles { (S : Sheet) (bound : ℕ → ℕ) → Placed S graph.now v limits → Keeps S kept.old v → Pass S bound (label_in labels.now.steps labels.now.levels) v → Based S (label_in labels.now.steps labels.now.levels) v (label_of base)
+        → Settles S (label_in labels.now.steps labels.now.levels) v (label_of result) × Keeps S kept.new v }
     ensures beside { Beside v kept.old kept.new }
     ensures kept_len_2 { length kept.new ≡ 2048 }
 {
-    let l = least_level(graph, steps, levels, kept, limits, v, base);
+    let l = least_level(graph, labels, kept, limits, v, base);
+    kept.check_rows();
     if l.0 <= limits.top {
-        return Label::at(base.step, l);
+        Label::at(base.step, l)
+    } else {
+        base.next_step(delay_in(graph, v))
     }
-    let delay = delay_in(graph, v);
-    base.next_step(delay)
 }

@@ -4,5 +4,5 @@
 mod cuts;
 mod level;
 
-pub use cuts::{Cuts, keep_cut, leaf_count_in, leaf_in, lowest_cutless};
+pub use cuts::{Cuts, lowest_cutless};
 pub use level::{codes, table_label};

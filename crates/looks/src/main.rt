@@ -3,58 +3,47 @@
 // by the test whether the cut fits (now).
 #![tactic(auto)]
 
-ghost use Rattle.std.specs.Prelude.{◌<◌, ◌≤◌};
+ghost use Rattle.std.specs.Prelude.{◌+◌, ◌<◌, ◌≤◌, unwrap_or};
 ghost use Rattle.rows.specs.Table.{Falling};
 ghost use Rattle.looks.specs.Counted.{Counted};
 
 use counting::{all_looks, cut_fits};
 use report::{print_refusal, read_full};
-use rows::{Graph, code_of, kind_in, output_in};
-use sheet::{Reading, read_sheet};
+use rows::{Graph, Tables, kind_in, output_in};
+use sheet::read_sheet;
 use std::io;
 use std::io::Write;
-
-// The code of a logic node's kind.
-const LOGIC: u32 = 1;
-
-// The mark of a node by the code of its kind.
-fn mark(code: u32) -> u8 {
-    if code == LOGIC {
-        return 1;
-    }
-    0
-}
+use types::Kind;
 
 // Marks the logic nodes.
-fn mark_logic(graph: &Graph, marks: &mut [u8; 256]) {
+fn mark_logic(graph: &Graph, marks: &mut [bool; 256]) {
     for u in 0..256u32 {
-        marks[u as usize] = mark(code_of(kind_in(graph, u)));
+        marks[u as usize] = matches!(kind_in(graph, u), Kind::Logic);
     }
 }
 
 // The number of leaves, or that it is more than k.
-fn print_leaves<W: Write>(out: &mut W, count: u32, k: u32) -> io::Result<()> {
-    if count <= k {
-        write!(out, "{count}")
-    } else {
-        write!(out, "more than {k}")
+fn print_leaves<W: Write>(out: &mut W, leaves: Option<u32>, k: u32) -> io::Result<()> {
+    match leaves {
+        Some(count) => write!(out, "{count}"),
+        None => write!(out, "more than {k}"),
     }
 }
 
-// What is shown of a cone: the leaves of its cut, or one more than k, and the operands looked at.
+// What is shown of a cone: the number of leaves of its cut, where they are at most k, and of the operands looked at.
 #[derive(Clone, Copy)]
 struct Counts {
-    leaves: u32,
+    leaves: Option<u32>,
     before: u32,
     now: u32,
 }
 
 // The counts of the cone of v inside the marks.
-fn count_cone(graph: &Graph, marks: &[u8; 256], v: u32, k: u32) -> Counts
+fn count_cone(graph: &Graph, marks: &[bool; 256], v: u32, k: u32) -> Counts
     requires falling { Falling graph.now }
     requires v_bound { v < 256 }
     requires k_bound { k < 8 }
-    ensures { Counted graph.now marks.now v k result.leaves result.before result.now }
+    ensures { Counted graph.now marks.now v k (unwrap_or result.leaves (k + 1)) result.before result.now }
 {
     let mut cut = [0u32; 8];
     let mut looked: u32 = 0;
@@ -68,7 +57,7 @@ fn count_cone(graph: &Graph, marks: &[u8; 256], v: u32, k: u32) -> Counts
 }
 
 // The line of node v.
-fn show<W: Write>(out: &mut W, graph: &Graph, marks: &[u8; 256], v: u32, k: u32) -> io::Result<()>
+fn show<W: Write>(out: &mut W, graph: &Graph, marks: &[bool; 256], v: u32, k: u32) -> io::Result<()>
     requires falling { Falling graph.now }
     requires v_bound { v < 256 }
     requires k_bound { k < 8 }
@@ -90,13 +79,11 @@ fn show_nodes<W: Write>(out: &mut W, graph: &Graph, n: u32, k: u32) -> io::Resul
     requires n_bound { n ≤ 256 }
     requires k_bound { k < 8 }
 {
-    let mut marks = [0u8; 256];
+    let mut marks = [false; 256];
     mark_logic(graph, &mut marks);
     for v in 0..n {
-        if marks[v as usize] == 1 {
-            if output_in(graph, v) {
-                show(out, graph, &marks, v, k)?;
-            }
+        if marks[v as usize] && output_in(graph, v) {
+            show(out, graph, &marks, v, k)?;
         }
     }
     Ok(())
@@ -104,15 +91,13 @@ fn show_nodes<W: Write>(out: &mut W, graph: &Graph, n: u32, k: u32) -> io::Resul
 
 // The lines of a sheet.
 fn show_sheet<W: Write>(out: &mut W, bytes: &[u8]) -> io::Result<()> {
-    let mut graph = [0u32; 4096];
-    let mut differences = [0u32; 4096];
-    let reading = read_sheet(bytes, &mut graph, &mut differences);
-    match reading {
-        Reading::Refused(why) => {
+    let mut tables = Tables::EMPTY;
+    match read_sheet(bytes, &mut tables) {
+        Ok(header) => show_nodes(out, &tables.graph, header.nodes, header.leaves),
+        Err(why) => {
             print_refusal(out, why)?;
             Ok(())
         }
-        Reading::Sheet(header) => show_nodes(out, &graph, header.nodes, header.leaves),
     }
 }
 

@@ -4,4 +4,4 @@
 mod line;
 mod reading;
 
-pub use reading::{Model, read_model};
+pub use reading::read_model;

@@ -1,89 +1,78 @@
 // One line of a text.
-ghost use Rattle.std.specs.Prelude.{◌≡◌, false, ◌<◌, ◌≤◌, length, drop};
+ghost use Rattle.std.specs.Prelude.{◌≡◌, false, ◌<◌, ◌≤◌, Err, length, drop};
+ghost use Rattle.types.specs.Code.{number_of, place_of};
 ghost use Rattle.blif.specs.Scan.{from, ends_blanks, at_line_end};
 ghost use Rattle.blif.specs.Limits.{text_most};
 ghost use Rattle.blif.specs.Model.{Model};
-ghost use Rattle.definitions.specs.Kept.{Kept};
+ghost use Rattle.grounds.specs.Ground.{ground_number};
+ghost use Rattle.definitions.specs.Kept.{KeptIn};
 ghost use Rattle.model.specs.Turns.{Turned};
 
-use definitions::{Size, keep_line};
+use definitions::{Circuit, keep_line};
 use grounds::{Ground, ground_of};
-use names::Names;
 use scan::{after_blanks, after_word, count_words, line_ends, line_number};
 use subset::{Stage, stage_after, statement_at};
 use types::Refusal;
 
-// Where the next line stands, and how much is kept.
-#[derive(Clone, Copy)]
-pub struct State {
-    pub stage: Stage,
-    pub size: Size,
+// The refusal of a line for a ground.
+fn refused(ground: Ground, line: usize) -> Refusal
+    ensures { (number_of result ≡ ground_number (Err ground)) × (place_of result ≡ line) }
+{
+    match ground {
+        Ground::Subset => Refusal::Subset(line),
+        Ground::Name => Refusal::Name(line),
+        Ground::Limit => Refusal::Limit(line),
+    }
 }
 
-// What a line leads to.
-#[derive(Clone, Copy)]
-pub enum Turn {
-    Next(State),
-    Refused(Refusal),
-}
-
-// Reads the line that begins at `at` and whose first word begins at `first`.
+// Reads the line that begins at `at` and whose first word begins at `first`; where the next line stands.
 pub fn read_words(
     text: &[u8],
     at: usize,
     first: usize,
-    state: State,
+    stage: Stage,
     delay: u32,
-    names: &mut Names,
-    nodes: &mut [u32],
-    operands: &mut [u32],
-) -> Turn
+    circuit: &mut Circuit,
+) -> Result<Stage, Refusal>
     requires at_in_bounds { (at < length text.now) × (length text.now ≤ text_most) × (drop first text.now ≡ from ends_blanks (drop at text.now)) × (at_line_end (drop first text.now) ≡ false) }
-    requires kept { (M : Model) × Kept delay M.definitions names.old nodes.old operands.old state.size.nodes state.size.operands }
-    ensures { (M : Model) → Kept delay M.definitions names.old nodes.old operands.old state.size.nodes state.size.operands
-        → Turned text.now delay at state.stage M names.new nodes.new operands.new result }
+    requires kept { (M : Model) × KeptIn delay M.definitions circuit.old }
+    ensures { (M : Model) → KeptIn delay M.definitions circuit.old → Turned text.now delay at stage M circuit.new result }
 {
-    let stage = state.stage;
-    let size = state.size;
     let rest = after_word(text, first);
     let count = count_words(text, rest);
     let statement = statement_at(text, first, rest, count, stage);
-    let ground = ground_of(text, rest, statement, count, names, size.nodes);
-    match ground {
-        Ground::Subset => Turn::Refused(Refusal::Subset(line_number(text, at))),
-        Ground::Name => Turn::Refused(Refusal::Name(line_number(text, at))),
-        Ground::Limit => Turn::Refused(Refusal::Limit(line_number(text, at))),
-        Ground::Good => {
-            let kept = keep_line(
-                text, rest, statement, count, delay, names, nodes, operands, size,
-            );
-            let next = stage_after(stage, statement, count);
-            Turn::Next(State {
-                stage: next,
-                size: kept,
-            })
+    match ground_of(
+        text,
+        rest,
+        statement,
+        count,
+        &circuit.names,
+        circuit.size.nodes,
+    ) {
+        Err(ground) => Err(refused(ground, line_number(text, at))),
+        Ok(()) => {
+            keep_line(text, rest, statement, count, delay, circuit);
+            Ok(stage_after(stage, statement, count))
         }
     }
 }
 
-// Reads the line that begins at `at`.
+// Reads the line that begins at `at`; where the next line stands.
 pub fn read_line(
     text: &[u8],
     at: usize,
-    state: State,
+    stage: Stage,
     delay: u32,
-    names: &mut Names,
-    nodes: &mut [u32],
-    operands: &mut [u32],
-) -> Turn
+    circuit: &mut Circuit,
+) -> Result<Stage, Refusal>
     requires at_in_bounds { (at < length text.now) × (length text.now ≤ text_most) }
-    requires kept { (M : Model) × Kept delay M.definitions names.old nodes.old operands.old state.size.nodes state.size.operands }
-    ensures { (M : Model) → Kept delay M.definitions names.old nodes.old operands.old state.size.nodes state.size.operands
-        → Turned text.now delay at state.stage M names.new nodes.new operands.new result }
+    requires kept { (M : Model) × KeptIn delay M.definitions circuit.old }
+    ensures { (M : Model) → KeptIn delay M.definitions circuit.old → Turned text.now delay at stage M circuit.new result }
 {
     let first = after_blanks(text, at);
     if line_ends(text, first) {
-        return Turn::Next(state);
+        Ok(stage)
+    } else {
+        read_words(text, at, first, stage, delay, circuit)
     }
-    read_words(text, at, first, state, delay, names, nodes, operands)
 }

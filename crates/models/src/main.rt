@@ -2,7 +2,6 @@
 // numbers, or the line of its refusal.
 #![tactic(auto)]
 
-use out_bytes::Outcome;
 use report::{print_refusal, read_full};
 use std::io;
 use std::io::Write;
@@ -16,10 +15,8 @@ fn print_next<W: Write>(out: &mut W, n: u8) -> io::Result<()> {
 
 // The first n numbers, each behind a space.
 fn print_first<W: Write>(out: &mut W, sheet: &[u8], n: usize) -> io::Result<()> {
-    for i in 0..n {
-        if i < sheet.len() {
-            print_next(out, sheet[i])?;
-        }
+    for number in sheet.iter().take(n) {
+        print_next(out, *number)?;
     }
     Ok(())
 }
@@ -27,40 +24,25 @@ fn print_first<W: Write>(out: &mut W, sheet: &[u8], n: usize) -> io::Result<()> 
 // Imports a text and prints what came of it.
 fn show<W: Write>(out: &mut W, text: &[u8]) -> io::Result<()> {
     let mut sheet = [0u8; 256];
-    let answer = importer::import_blif(text, 4, 8, 9, 1000, 500, &mut sheet);
-    match answer {
-        Outcome::Refused(why) => {
-            print_refusal(out, why)?;
-            Ok(())
-        }
-        Outcome::Written(n) => {
+    match importer::import_blif(text, 4, 8, 9, 1000, 500, &mut sheet) {
+        Ok(n) => {
             out.write_all(b"sheet")?;
             print_first(out, &sheet, n)?;
             out.write_all(b"\n")
         }
-    }
-}
-
-// Shows the text from a position up to another.
-fn show_part<W: Write>(out: &mut W, texts: &[u8], from: usize, to: usize) -> io::Result<()> {
-    if to <= texts.len() {
-        if from <= to {
-            return show(out, &texts[from..to]);
+        Err(why) => {
+            print_refusal(out, why)?;
+            Ok(())
         }
     }
-    Ok(())
 }
 
 // Shows the texts one after the other.
 fn show_all<W: Write>(out: &mut W, texts: &[u8]) -> io::Result<()> {
-    let mut from = 0;
-    for at in 0..texts.len() {
-        if texts[at] == SEPARATOR {
-            show_part(out, texts, from, at)?;
-            from = at + 1;
-        }
+    for text in texts.split(|byte| *byte == SEPARATOR) {
+        show(out, text)?;
     }
-    show_part(out, texts, from, texts.len())
+    Ok(())
 }
 
 fn main(rt: HostRuntime) -> io::Result<()> {

@@ -1,5 +1,5 @@
 pub mod Ids
 pub mod Buckets
-pub mod Rows
+pub mod Entries
 pub mod Tables
 pub mod Searching

@@ -1,83 +1,104 @@
 // The names that a text has defined so far, found by hash.
 #![tactic(auto)]
 
-ghost use Rattle.std.specs.Prelude.{◌+◌, ◌<◌, ◌≤◌, ◌≡◌, false, [], ◌∷◌, ◌++◌, length};
+ghost use Rattle.std.specs.Prelude.{◌+◌, ◌<◌, ◌≤◌, ◌≡◌, false, [], ◌∷◌, ◌++◌, length, unwrap_or, IfSome};
 ghost use Rattle.maps.specs.Limits.{size_range};
 ghost use Rattle.maps.specs.Lists.{equal};
 ghost use Rattle.blif.specs.Scan.{name_at};
 ghost use Rattle.blif.specs.Names.{has};
 ghost use Rattle.blif.specs.Limits.{name_most};
 ghost use Rattle.blif.specs.Import.{id_of};
-ghost use Rattle.names.specs.Table.{row_place, size_in, name_in, names_in, Listed, Stored};
+ghost use Rattle.names.specs.Table.{word_of, names_in, Listed};
 
-use scan::{name_hash, name_next};
+use scan::{name_bytes, name_hash};
 
-// The heads of 512 lists, the links of 256 names, their hashes, and for each name its length and its bytes, at most 31.
-pub type Names = [u32; 9216];
+// How many names a table holds, how many bytes a name has at most, and how many lists there are.
+const MOST_NAMES: usize = 256;
+
+const MOST_BYTES: usize = 31;
 
 const BUCKETS: usize = 512;
 
-const LINKS: usize = 512;
-
-const HASHES: usize = 768;
-
-const ROWS: usize = 1024;
-
-const ROW_SIZE: usize = 32;
-
-// Whether the name that begins at a position is name i.
-fn is_name(text: &[u8], names: &Names, i: usize, at: usize) -> bool
-    requires { (i < size_range.high) × (size_in names.now i ≤ name_most) }
-    ensures { result ≡ equal (name_at text.now at) (name_in names.now i) }
-{
-    let row = ROWS + ROW_SIZE * i;
-    let size = names[row] as usize;
-    let mut p = name_next(text, at);
-    let mut n: usize = 0;
-    while p != 0 {
-        if size <= n {
-            return false;
-        }
-        if text[p - 1] as u32 != names[row + 1 + n] {
-            return false;
-        }
-        p = name_next(text, p);
-        n += 1;
-    }
-    size <= n
+// A name: its hash, the id of the next one in its list, and its bytes.
+#[derive(Clone, Copy)]
+struct Entry {
+    hash: u32,
+    next: Option<u8>,
+    size: u8,
+    bytes: [u8; MOST_BYTES],
 }
 
-// The id of the name that begins at a position, or `count` where the table has no such name.
-pub fn id_of(text: &[u8], names: &Names, count: usize, at: usize) -> usize
+// Names, each at the place of its id, in lists by their hashes: the head of a list is the id of its latest name.
+#[derive(Drop)]
+pub struct Names {
+    heads: [Option<u8>; BUCKETS],
+    entries: [Entry; MOST_NAMES],
+}
+
+impl Entry {
+    // The name that begins at a position, which is not too long.
+    fn new(text: &[u8], at: usize, hash: u32, next: Option<u8>) -> Entry
+        requires { length (name_at text.now at) ≤ name_most }
+        ensures kept { (result.hash ≡ hash) × (result.next ≡ next) × (result.size ≤ name_most) }
+        ensures bytes { word_of result ≡ name_at text.now at }
+    {
+        let mut bytes = [0; MOST_BYTES];
+        let mut size: u8 = 0;
+        for b in name_bytes(text, at) {
+            bytes[usize::from(size)] = b;
+            size += 1;
+        }
+        Entry {
+            hash,
+            next,
+            size,
+            bytes,
+        }
+    }
+
+    // Whether the name that begins at a position is this one.
+    fn is_at(&self, text: &[u8], at: usize) -> bool
+        ensures { result ≡ equal (name_at text.now at) (word_of self.now) }
+    {
+        name_bytes(text, at).eq(self.bytes.iter().copied().take(usize::from(self.size)))
+    }
+}
+
+impl Names {
+    // A table of no names.
+    pub fn new() -> Names
+        ensures { Listed result 0 }
+    {
+        let none = Entry {
+            hash: 0,
+            next: None,
+            size: 0,
+            bytes: [0; MOST_BYTES],
+        };
+        Names {
+            heads: [None; BUCKETS],
+            entries: [none; MOST_NAMES],
+        }
+    }
+}
+
+// The id of the name that begins at a position, if the table has such a name.
+pub fn id_of(text: &[u8], names: &Names, count: usize, at: usize) -> Option<usize>
     requires { Listed names.now count }
-    ensures { result ≡ id_of (names_in names.now count) (name_at text.now at) }
+    ensures id { unwrap_or result count ≡ id_of (names_in names.now count) (name_at text.now at) }
+    ensures known { IfSome result (λ i. i < count) }
 {
     let hash = name_hash(text, at);
-    let mut e = names[hash as usize % BUCKETS];
-    while e > 0 {
-        let i = e as usize - 1;
-        if names[HASHES + i] == hash && is_name(text, names, i, at) {
-            return i;
+    let mut next = names.heads[hash as usize % BUCKETS];
+    while let Some(i) = next {
+        let id = usize::from(i);
+        let entry = &names.entries[id];
+        if entry.hash == hash && entry.is_at(text, at) {
+            return Some(id);
         }
-        e = names[LINKS + i];
+        next = entry.next;
     }
-    count
-}
-
-// Puts the name that begins at a position into row i.
-fn put_name(text: &[u8], names: &mut Names, i: usize, at: usize)
-    requires { (length names.old ≡ row_place size_range.high) × (i < size_range.high) × (length (name_at text.now at) ≤ name_most) }
-    ensures { Stored names.old names.new i (name_at text.now at) }
-{
-    let row = ROWS + ROW_SIZE * i;
-    let mut p = name_next(text, at);
-    let mut n: usize = 0;
-    while p != 0 {
-        names[row + 1 + n] = text[p - 1] as u32;
-        p = name_next(text, p);
-        n += 1;
-    }
-    names[row] = n as u32;
+    None
 }
 
 // Puts the name that begins at a position, which is not in the table, at the head of its list.
@@ -89,9 +110,6 @@ pub fn add_name(text: &[u8], names: &mut Names, count: usize, at: usize)
 {
     let hash = name_hash(text, at);
     let bucket = hash as usize % BUCKETS;
-    put_name(text, names, count, at);
-    let head = names[bucket];
-    names[HASHES + count] = hash;
-    names[LINKS + count] = head;
-    names[bucket] = count as u32 + 1;
+    names.entries[count] = Entry::new(text, at, hash, names.heads[bucket]);
+    names.heads[bucket] = Some(count as u8);
 }

@@ -1,11 +1,10 @@
 // Numbers of a sheet, read at a cursor.
 #![tactic(auto)]
 
-ghost use Rattle.std.specs.Prelude.{◌≡◌, length};
-ghost use Rattle.maps.specs.Number.{number, refusal};
+ghost use Rattle.std.specs.Prelude.{◌≡◌};
+ghost use Rattle.maps.specs.Number.{number};
 ghost use Rattle.maps.specs.Form.{in_range, operand};
-ghost use Rattle.number.specs.Code.{number_meant, NotRead};
-ghost use Rattle.number.specs.declared.Number.TheVariants as Number;
+ghost use Rattle.number.specs.Code.{byte_meant, number_meant};
 ghost use Rattle.ranges.specs.Ranges.{span_meant, field_range};
 
 use ranges::{Field, Span, range_of};
@@ -21,118 +20,85 @@ pub struct Cursor {
     pub at: usize,
 }
 
-// What reading a number gives: the value with the next position, or the refusal.
+// A number and the position after it.
 #[derive(Clone, Copy)]
-pub enum Number {
-    Value { value: u32, next: Cursor },
-    Refused(Refusal),
+pub struct Read {
+    pub value: u32,
+    pub next: Cursor,
 }
 
-// The refusal of a number that was not read.
-pub fn refusal_of(read: Number) -> Refusal
-    requires { NotRead read }
-    ensures { read ≡ Number.Refused result }
+// The byte at a position; ground 1, wherever the sheet ends too early.
+fn byte_at(sheet: &[u8], at: usize) -> Result<u32, Refusal>
+    ensures { byte_meant sheet.now at result }
 {
-    match read {
-        Number::Refused(why) => why,
-        Number::Value { value: _, next: _ } => Refusal::Ended(0),
-    }
-}
-
-// Ground 1, wherever the sheet ends too early.
-fn ended(sheet: &[u8]) -> Number
-    ensures { number_meant result ≡ refusal 1 (length sheet.now) }
-{
-    Number::Refused(Refusal::Ended(sheet.len()))
+    let byte = sheet.get(at).ok_or(Refusal::Ended(sheet.len()))?;
+    Ok(u32::from(*byte))
 }
 
 // The number at a cursor.
-pub fn number_at(sheet: &[u8], c: Cursor) -> Number
+pub fn number_at(sheet: &[u8], c: Cursor) -> Result<Read, Refusal>
     ensures { number_meant result ≡ number sheet.now c.at }
 {
     let at = c.at;
-    if sheet.len() <= at {
-        return ended(sheet);
-    }
-    let low = sheet[at] as u32;
-    let second = at + 1;
+    let low = byte_at(sheet, at)?;
     if low < 128 {
-        return Number::Value {
+        return Ok(Read {
             value: low,
-            next: Cursor { at: second },
-        };
+            next: Cursor { at: at + 1 },
+        });
     }
-    if sheet.len() <= second {
-        return ended(sheet);
-    }
-    let middle = sheet[second] as u32;
+    let middle = byte_at(sheet, at + 1)?;
     if middle == 0 {
-        return Number::Refused(Refusal::Spelling(at));
+        return Err(Refusal::Spelling(at));
     }
-    let third = second + 1;
     if middle < 128 {
-        let value = low - 128 + 128 * middle;
-        return Number::Value {
-            value,
-            next: Cursor { at: third },
-        };
+        return Ok(Read {
+            value: low - 128 + 128 * middle,
+            next: Cursor { at: at + 2 },
+        });
     }
-    if sheet.len() <= third {
-        return ended(sheet);
-    }
-    let high = sheet[third] as u32;
-    if high == 0 {
-        return Number::Refused(Refusal::Spelling(at));
-    }
-    if 128 <= high {
-        return Number::Refused(Refusal::Spelling(at));
+    let high = byte_at(sheet, at + 2)?;
+    if high == 0 || 128 <= high {
+        return Err(Refusal::Spelling(at));
     }
     let above = middle - 128 + 128 * high;
-    let value = low - 128 + 128 * above;
-    let after = third + 1;
-    Number::Value {
-        value,
-        next: Cursor { at: after },
-    }
+    Ok(Read {
+        value: low - 128 + 128 * above,
+        next: Cursor { at: at + 3 },
+    })
 }
 
 // The number at a cursor, in a range.
-pub fn field_in(sheet: &[u8], c: Cursor, span: Span) -> Number
+pub fn field_in(sheet: &[u8], c: Cursor, span: Span) -> Result<Read, Refusal>
     ensures { number_meant result ≡ in_range (span_meant span) sheet.now c.at }
 {
-    let low = span.low;
-    let high = span.high;
     let read = read_number(sheet, c);
-    let Number::Value { value, next: _ } = read else {
+    let Ok(Read { value, .. }) = read else {
         return read;
     };
-    if value < low {
-        return Number::Refused(Refusal::Range(c.at));
-    }
-    if high < value {
-        return Number::Refused(Refusal::Range(c.at));
+    if value < span.low || span.high < value {
+        return Err(Refusal::Range(c.at));
     }
     read
 }
 
 // The number at a cursor, in the range of its field.
-pub fn field_at(sheet: &[u8], c: Cursor, field: Field) -> Number
+pub fn field_at(sheet: &[u8], c: Cursor, field: Field) -> Result<Read, Refusal>
     ensures { number_meant result ≡ in_range (field_range field) sheet.now c.at }
 {
-    let span = range_of(field);
-    field_in(sheet, c, span)
+    field_in(sheet, c, range_of(field))
 }
 
 // The operand at a cursor, of the node own.
-pub fn operand_at(sheet: &[u8], c: Cursor, own: u32) -> Number
+pub fn operand_at(sheet: &[u8], c: Cursor, own: u32) -> Result<Read, Refusal>
     ensures { number_meant result ≡ operand own sheet.now c.at }
 {
     let id = read_number(sheet, c);
-    let Number::Value { value, next: _ } = id else {
+    let Ok(Read { value, .. }) = id else {
         return id;
     };
     if value < own {
         return id;
     }
-    Number::Refused(Refusal::Operand(c.at))
+    Err(Refusal::Operand(c.at))
 }

@@ -1,7 +1,7 @@
 // What a call hands over: numbers as bytes, and the bytes into the caller's buffer where it has room.
 #![tactic(auto)]
 
-ghost use Rattle.std.specs.Prelude.{◌≡◌, ◌++◌, ◌+◌, ◌<◌, ◌≤◌, length, take, drop};
+ghost use Rattle.std.specs.Prelude.{◌≡◌, ◌++◌, ◌+◌, ◌^◌, ◌<◌, ◌≤◌, length, take};
 ghost use Rattle.maps.specs.Number.{encoded, bytes_for, values};
 ghost use Rattle.maps.specs.Outcome.{within};
 ghost use Rattle.out_bytes.specs.Put.{Put};
@@ -9,60 +9,59 @@ ghost use Rattle.out_bytes.specs.Outcome.{Answered, number_answered, place_answe
 
 use types::Refusal;
 
-// What a call comes to: the length of what was written, or the refusal.
-#[derive(Clone, Copy)]
-pub enum Outcome {
-    Written(usize),
-    Refused(Refusal),
-}
-
 // Writes x, seven bits in each byte and the low group first; the position after it.
-pub fn put(bytes: &mut [u8], at: usize, x: u32) -> usize
+fn put_at(bytes: &mut [u8], mut at: usize, x: u32) -> usize
     requires { (x < values) × (at + bytes_for x ≤ length bytes.old) }
     ensures { Put (bytes_for x) bytes.old bytes.new at result (encoded x) }
 {
-    if x < 128 {
-        bytes[at] = x as u8;
-        return at + 1;
+    let mut rest = x;
+    while 128 <= rest {
+        bytes[at] = (128 + rest % 128) as u8;
+        at += 1;
+        rest /= 128;
     }
-    let low = 128 + x % 128;
-    let rest = x / 128;
-    bytes[at] = low as u8;
-    let second = at + 1;
-    if rest < 128 {
-        bytes[second] = rest as u8;
-        return second + 1;
-    }
-    let middle = 128 + rest % 128;
-    let high = rest / 128;
-    bytes[second] = middle as u8;
-    let third = second + 1;
-    bytes[third] = high as u8;
-    third + 1
+    bytes[at] = rest as u8;
+    at + 1
 }
 
-// Copies the first n bytes into the buffer.
-fn copy(bytes: &[u8], buffer: &mut [u8], n: usize)
-    requires { (n ≤ length bytes.now) × (n ≤ length buffer.old) }
-    ensures { buffer.new ≡ take n bytes.now ++ drop n buffer.old }
-{
-    let mut i: usize = 0;
-    while i < n {
-        buffer[i] = bytes[i];
-        i += 1;
-    }
+// What is written so far: the first `len` of the bytes.
+#[derive(Drop)]
+pub struct Output<const N: usize> {
+    pub bytes: [u8; N],
+    pub len: usize,
 }
 
-// Hands over the first n bytes where the buffer has room.
-pub fn hand_over(bytes: &[u8], buffer: &mut [u8], n: usize) -> Outcome
-    requires { n ≤ length bytes.now }
-    ensures { Answered (within (length buffer.old) (take n bytes.now)) (number_answered result) (place_answered result) buffer.old buffer.new }
-{
-    if buffer.len() < n {
-        return Outcome::Refused(Refusal::Room(n));
+impl<const N: usize> Output<N> {
+    // Nothing is written yet.
+    pub fn new() -> Self
+        ensures { (length result.bytes ≡ N) × (result.len ≡ 0) }
+    {
+        Output {
+            bytes: [0; N],
+            len: 0,
+        }
     }
-    copy(bytes, buffer, n);
-    Outcome::Written(n)
+
+    // Writes x.
+    pub fn put(&mut self, x: u32)
+        requires { (x < values) × (self.old.len + bytes_for x ≤ length self.old.bytes) }
+        ensures put { Put (bytes_for x) self.old.bytes self.new.bytes self.old.len self.new.len (encoded x) }
+        ensures len_fits { self.new.len < 2 ^ 64 }
+    {
+        self.len = put_at(&mut self.bytes, self.len, x);
+    }
+
+    // Hands over what is written where the buffer has room: its length, or the refusal.
+    pub fn hand_over(&self, buffer: &mut [u8]) -> Result<usize, Refusal>
+        requires { self.now.len ≤ length self.now.bytes }
+        ensures { Answered (within (length buffer.old) (take self.now.len self.now.bytes)) (number_answered result) (place_answered result) buffer.old buffer.new }
+    {
+        if buffer.len() < self.len {
+            return Err(Refusal::Room(self.len));
+        }
+        buffer[..self.len].copy_from_slice(&self.bytes[..self.len]);
+        Ok(self.len)
+    }
 }
 
 // Number and place, for C.
@@ -73,18 +72,20 @@ pub struct Answer {
     pub place: u64,
 }
 
-// The number and place of an outcome.
-pub fn answer_of(outcome: Outcome) -> Answer
-    ensures { (result.number ≡ number_answered outcome) × (result.place ≡ place_answered outcome) }
-{
-    match outcome {
-        Outcome::Written(n) => Answer {
-            number: 0,
-            place: n as u64,
-        },
-        Outcome::Refused(why) => Answer {
-            number: why.number() as u64,
-            place: why.place() as u64,
-        },
+// The number and place of what a call comes to: the length of what was written, or the refusal.
+impl From<Result<usize, Refusal>> for Answer {
+    ghost from_gives = { λ outcome answer. (answer.number ≡ number_answered outcome) × (answer.place ≡ place_answered outcome) };
+
+    fn from(outcome: Result<usize, Refusal>) -> Answer {
+        match outcome {
+            Ok(n) => Answer {
+                number: 0,
+                place: n as u64,
+            },
+            Err(why) => Answer {
+                number: why.number() as u64,
+                place: why.place() as u64,
+            },
+        }
     }
 }

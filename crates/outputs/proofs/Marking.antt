@@ -4,6 +4,9 @@ use mathlib.Core.Path.{◌≡◌, refl, sym, subst, ap, ◌∙◌}
 use mathlib.Core.Bool.{Bool, true, false, cond, ◌&&◌, ◌||◌, not, or-false, or_assoc}
 use mathlib.Core.List.{List, [], ◌∷◌, ◌++◌, map}
 use native.Mathlib.Omega.{arith}
+use Rattle.std.specs.Prelude.{Result, Ok, Err}
+use Rattle.types.specs.declared.Refusal.{Refusal}
+use Rattle.types.specs.declared.Refusal.TheVariants.{Name}
 use lib.ListN.{length, take, drop, set, length-map}
 use lib.Seq.{take-set-lt}
 use borrow.Author.Tests.{lt-ltb, le-ltb}
@@ -17,7 +20,7 @@ use Rattle.blif.specs.Names.{Definition, names_of, OutputName, has}
 use Rattle.blif.specs.Model.{Model, found, model_of}
 use Rattle.blif.specs.Import.{id_of, is_output}
 use Rattle.blif.proofs.Ordering.{Once}
-use Rattle.blif.proofs.Positions.{until_end, lines_at, lines_end, lines_start}
+use Rattle.blif.proofs.Positions.{lines_at, lines_end, lines_start}
 use Rattle.blif.proofs.Walking.{words-none, words-some}
 use Rattle.blif.proofs.Wording.{next_word}
 use Rattle.names.proofs.Ids.{has-id}
@@ -25,14 +28,7 @@ use Rattle.definitions.specs.Rows.{rows_from}
 use Rattle.definitions.proofs.RowLaws.{id_below}
 use Rattle.outputs.specs.ByWord.{output_words, outputs_named, outputs_of_words, outputs_of_line, undefined_of}
 use Rattle.outputs.specs.Marks.{Adds, WordsMarked, OutputsMarked}
-use Rattle.outputs.specs.declared.Marked.{Marked}
-use Rattle.outputs.specs.declared.Marked.TheVariants.{All, Undefined}
 use Rattle.outputs.proofs.MarkLaws.{rows_same, mark-row, outputs-of-text}
-
--- past the text's end there are no words
-pub words-past : (s : List ℕ) (at : ℕ) → length s ≤ at → words_at s at ≡ []
-unfolding until words
-words-past s at l = ap words (until_end ends_line s at l)
 
 -- the names that a line puts out, where `first` is after the blanks at its beginning: by its first word
 module _ (s : List ℕ) (at first : ℕ) (e : drop first s ≡ from ends_blanks (drop at s)) where
@@ -109,10 +105,10 @@ module _ (ns : List Word) where
   pub word-missing : (w : Word) (vs ws : List Word) (before after : List ℕ) (id : ℕ) → vs ≡ w ∷ ws → id ≡ id_of ns w → length ns ≤ id → WordsMarked ns vs before after false
   word-missing w vs ws before after id e i l = rw (e, id-missing w (omega arith)) refl
 
-  -- the outputs of a list are defined and are marked, or the first that is not defined stands on line p
-  abbrev pub ListMarked : List OutputName → (before after : List ℕ) → Marked → Type 0
-  ListMarked os before after All = (undefined_of ns os ≡ []) × Adds ns (is_output os) before after
-  ListMarked os before after (Undefined p) = (o : OutputName) × (ps : List OutputName) × (undefined_of ns os ≡ o ∷ ps) × (o.line ≡ p)
+  -- the outputs of a list are defined and are marked, or the first that is not defined stands on the line that the refusal names
+  abbrev pub ListMarked : List OutputName → (before after : List ℕ) → Result (Unit {0}) Refusal → Type 0
+  ListMarked os before after (Ok _) = (undefined_of ns os ≡ []) × Adds ns (is_output os) before after
+  ListMarked os before after (Err w) = (o : OutputName) × (ps : List OutputName) × (undefined_of ns os ≡ o ∷ ps) × (w ≡ Name o.line)
 
   undefined-append : (os ps : List OutputName) → undefined_of ns (os ++ ps) ≡ undefined_of ns os ++ undefined_of ns ps
   undefined-append os ps = keep_append (λ (o : OutputName). not (has ns o.name)) os ps
@@ -145,13 +141,13 @@ module _ (ns : List Word) where
     outputs-append (v ∷ ws) os w = or_assoc (equal w v) (has ws w) (is_output os w) ∙ ap (λ (b : Bool). equal w v || b) (outputs-append ws os w)
 
     -- the outputs of a line, and those after it
-    line_marked : (ws : List Word) (os : List OutputName) (before mid after : List ℕ) (r : Marked)
+    line_marked : (ws : List Word) (os : List OutputName) (before mid after : List ℕ) (r : Result (Unit {0}) Refusal)
         → WordsMarked ns ws before mid true → ListMarked os mid after r → ListMarked (outputs_named n ws ++ os) before after r
-    line_marked ws os before mid after All p q = (
+    line_marked ws os before mid after (Ok _) p q = (
       undefined-append (outputs_named n ws) os ∙ rw (undefined-none ws p.0, q.0) refl,
       adds_same (λ w. has ws w || is_output os w) (is_output (outputs_named n ws ++ os)) (outputs-append ws os) (adds-join (has ws) (is_output os) p.1 q.1),
     )
-    line_marked ws os before mid after (Undefined k) p q = (
+    line_marked ws os before mid after (Err w) p q = (
       q.0,
       q.1,
       undefined-append (outputs_named n ws) os ∙ rw (undefined-none ws p.0, q.2) refl,
@@ -159,10 +155,10 @@ module _ (ns : List Word) where
     )
 
     line-stops : (ws : List Word) (os : List OutputName) (before mid after : List ℕ)
-        → WordsMarked ns ws before mid false → ListMarked (outputs_named n ws ++ os) before after (Undefined n)
+        → WordsMarked ns ws before mid false → ListMarked (outputs_named n ws ++ os) before after (Err (Name n))
     line-stops ws os before mid after p =
         let f = undefined-first ws p in
-        (f.0, f.1 ++ undefined_of ns os, undefined-append (outputs_named n ws) os ∙ ap (λ (ps : List OutputName). ps ++ undefined_of ns os) f.2, f.3)
+        (f.0, f.1 ++ undefined_of ns os, undefined-append (outputs_named n ws) os ∙ ap (λ (ps : List OutputName). ps ++ undefined_of ns os) f.2, ap Name (sym f.3))
 
 -- the outputs of the lines from a position on, where a line begins
 abbrev pub outputs_from : (text : List ℕ) → (at : ℕ) → List OutputName
@@ -185,28 +181,28 @@ outputs-at s at next l e = ap (λ (ls : List Line). concat (map outputs_of_line 
 
 -- lines one by one: none, one whose outputs are marked, one with an output that is not defined
 module _ (s : List ℕ) (ns : List Word) where
-  pub outputs-end : (at : ℕ) (nodes : List ℕ) → length s ≤ at → ListMarked ns (outputs_from s at) nodes nodes All
+  pub outputs-end : (at : ℕ) (nodes : List ℕ) → length s ≤ at → ListMarked ns (outputs_from s at) nodes nodes (Ok tt)
   outputs-end at nodes l =
-      subst (λ (os : List OutputName). ListMarked ns os nodes nodes All)
+      subst (λ (os : List OutputName). ListMarked ns os nodes nodes (Ok tt))
       (sym (ap (λ (ls : List Line). concat (map outputs_of_line ls)) (lines_end s at (1 + newlines (take at s)) l))) (refl, adds_none ns nodes)
 
   module _ (at next : ℕ) (l : at < length s) (e : drop next s ≡ past_line (drop at s)) (before mid after : List ℕ) (b : Bool)
       (h : WordsMarked ns (output_words (words_at s at)) before mid b) where
-    pub outputs-marked : (r : Marked) → b ≡ true → ListMarked ns (outputs_from s next) mid after r → ListMarked ns (outputs_from s at) before after r
+    pub outputs-marked : (r : Result (Unit {0}) Refusal) → b ≡ true → ListMarked ns (outputs_from s next) mid after r → ListMarked ns (outputs_from s at) before after r
     outputs-marked r t p =
         subst (λ (os : List OutputName). ListMarked ns os before after r) (sym (outputs-at s at next l e))
         (line_marked ns (1 + newlines (take at s)) (output_words (words_at s at)) (outputs_from s next) before mid after r
         (subst (WordsMarked ns (output_words (words_at s at)) before mid) t h) p)
 
-    pub outputs-stop : (n : ℕ) → b ≡ false → n ≡ 1 + newlines (take at s) → ListMarked ns (outputs_from s at) before after (Undefined n)
+    pub outputs-stop : (n : ℕ) → b ≡ false → n ≡ 1 + newlines (take at s) → ListMarked ns (outputs_from s at) before after (Err (Name n))
     outputs-stop n f i =
-        subst (λ (k : ℕ). ListMarked ns (outputs_from s at) before after (Undefined k)) (sym i)
-        (subst (λ (os : List OutputName). ListMarked ns os before after (Undefined (1 + newlines (take at s)))) (sym (outputs-at s at next l e))
+        subst (λ (k : ℕ). ListMarked ns (outputs_from s at) before after (Err (Name k))) (sym i)
+        (subst (λ (os : List OutputName). ListMarked ns os before after (Err (Name (1 + newlines (take at s))))) (sym (outputs-at s at next l e))
         (line-stops ns (1 + newlines (take at s)) (output_words (words_at s at)) (outputs_from s next) before mid after
         (subst (WordsMarked ns (output_words (words_at s at)) before mid) f h)))
 
 -- The outputs of the model are those of the lines from the text's beginning on, and before marking no row is marked.
-pub model-marked : (s : List ℕ) (ns : List Word) (count : ℕ) (before after : List ℕ) (r : Marked) → length ns ≡ count → ListMarked ns (outputs_from s 0) before after r
+pub model-marked : (s : List ℕ) (ns : List Word) (count : ℕ) (before after : List ℕ) (r : Result (Unit {0}) Refusal) → length ns ≡ count → ListMarked ns (outputs_from s 0) before after r
     → (d : ℕ) (M : Model) → model_of s ≡ found M → ns ≡ names_of M.definitions
     → take (node_place count) before ≡ rows_from d (λ w. false) 0 M.definitions → OutputsMarked d M after r
 model-marked s ns count before after r c h d M e i b =
@@ -217,6 +213,6 @@ model-marked s ns count before after r c h d M e i b =
     size : count ≡ length M.definitions
     size = sym c ∙ ap length i ∙ length-map M.definitions (λ (d : Definition). d.name)
 
-    go : (r : Marked) → ListMarked (names_of M.definitions) M.outputs before after r → OutputsMarked d M after r
-    go All p = (p.0, p.1.rows d (λ w. false) M.definitions refl (ap (λ (k : ℕ). take (node_place k) before) (sym size) ∙ b))
-    go (Undefined k) p = p
+    go : (r : Result (Unit {0}) Refusal) → ListMarked (names_of M.definitions) M.outputs before after r → OutputsMarked d M after r
+    go (Ok _) p = (p.0, p.1.rows d (λ w. false) M.definitions refl (ap (λ (k : ℕ). take (node_place k) before) (sym size) ∙ b))
+    go (Err w) p = p

@@ -13,14 +13,8 @@ ghost use Rattle.outputs.specs.Marks.{WordsMarked, OutputsMarked};
 
 use names::{Names, id_of};
 use records::mark_output;
-use scan::{after_blanks, after_line, after_word, line_ends, line_number, spells};
-
-// How marking ends: all outputs are marked, or the first that is not defined stands on this line.
-#[derive(Clone, Copy)]
-pub enum Marked {
-    All,
-    Undefined(usize),
-}
+use scan::{after_blanks, after_line, after_word, line_ends, line_number, line_words, spells};
+use types::Refusal;
 
 // Marks the nodes that the words of the line from a position on name; false at the first word that names none.
 fn mark_words(text: &[u8], start: usize, names: &Names, count: usize, nodes: &mut [u32]) -> bool
@@ -28,17 +22,10 @@ fn mark_words(text: &[u8], start: usize, names: &Names, count: usize, nodes: &mu
     ensures words_marked { WordsMarked (names_in names.now count) (words_at text.now start) nodes.old nodes.new result }
     ensures nodes_len_unchanged { length nodes.new ≡ length nodes.old }
 {
-    let mut at = start;
-    while at < text.len() {
-        let first = after_blanks(text, at);
-        if line_ends(text, first) {
-            return true;
-        }
-        let id = id_of(text, names, count, first);
-        at = after_word(text, first);
-        if count <= id {
+    for first in line_words(text, start) {
+        let Some(id) = id_of(text, names, count, first) else {
             return false;
-        }
+        };
         mark_output(nodes, id);
     }
     true
@@ -51,31 +38,32 @@ fn mark_line(text: &[u8], at: usize, names: &Names, count: usize, nodes: &mut [u
     ensures nodes_len_unchanged { length nodes.new ≡ length nodes.old }
 {
     let first = after_blanks(text, at);
-    if line_ends(text, first) {
+    if line_ends(text, first) || !spells(text, first, b".outputs") {
         return true;
     }
-    if !spells(text, first, b".outputs") {
-        return true;
-    }
-    let rest = after_word(text, first);
-    mark_words(text, rest, names, count, nodes)
+    mark_words(text, after_word(text, first), names, count, nodes)
 }
 
 // Marks the nodes that are put out, line by line, up to the first output that is not defined.
-pub fn mark_outputs(text: &[u8], names: &Names, count: usize, nodes: &mut [u32]) -> Marked
+pub fn mark_outputs(
+    text: &[u8],
+    names: &Names,
+    count: usize,
+    nodes: &mut [u32],
+) -> Result<(), Refusal>
     requires { Listed names.now count × (node_place count ≤ length nodes.old) }
     ensures by_index { (d : ℕ) (M : Model) → model_of text.now ≡ found M → names_in names.now count ≡ names_of M.definitions
         → take (node_place count) nodes.old ≡ rows_from d (λ w. false) 0 M.definitions
         → OutputsMarked d M nodes.new result }
     ensures nodes_len_unchanged { length nodes.new ≡ length nodes.old }
 {
-    let mut at: usize = 0;
+    let mut at = 0;
     while at < text.len() {
         let next = after_line(text, at);
         if !mark_line(text, at, names, count, nodes) {
-            return Marked::Undefined(line_number(text, at));
+            return Err(Refusal::Name(line_number(text, at)));
         }
         at = next;
     }
-    Marked::All
+    Ok(())
 }

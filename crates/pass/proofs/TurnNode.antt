@@ -19,7 +19,7 @@ use Rattle.maps.proofs.Planned.{delays, operands-below, windows}
 use Rattle.maps.proofs.Windows.{next-fields}
 use Rattle.rows.specs.Table.{kind_at, delay_in, count_in, operand_in, open_in, closing, WholeIn}
 use Rattle.rows.specs.declared.Header as R
-use Rattle.rows.proofs.Tables.{kind-tabled}
+use Rattle.rows.proofs.SheetTables.{kind-tabled}
 use Rattle.relax.specs.Guard.{Forced}
 use Rattle.maps.specs.Legal.{arrives}
 use Rattle.relax.specs.Settle.{By, Settles, Pass}

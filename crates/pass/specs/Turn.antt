@@ -1,5 +1,5 @@
 -- What a node's turn and a pass answer.
-use Rattle.std.specs.Prelude.{ℕ, ◌≡◌, Bool, false, List, set}
+use Rattle.std.specs.Prelude.{ℕ, ◌≡◌, Bool, false, List, Result, Ok, Err, set}
 use Rattle.maps.specs.Label.{Label}
 use Rattle.maps.specs.Sheet.{Sheet, size}
 use Rattle.rows.specs.declared.Header as R
@@ -8,6 +8,7 @@ use Rattle.relax.specs.Guard.{NoneFrom}
 use Rattle.relax.specs.Settle.{Settles, Pass, Passing}
 use Rattle.bound.specs.Lookup.{label_in}
 use Rattle.bound.specs.Going.{AllKept, Going}
+use Rattle.bound.specs.declared.arrive.Late.{Late}
 use Rattle.sweep.specs.Sweep.{SomeFails}
 use Rattle.pass.specs.declared.Course.{Course}
 use Rattle.pass.specs.declared.Course.TheVariants as Is
@@ -42,9 +43,9 @@ pub record Halted (S : Sheet) (graph differences : List ℕ) (limits : R.Header)
   pub partly : whole ≡ false
 
 -- late: nothing that heeds the lower bounds is legal within the horizon. stopped: a part of the nodes was settled. whole: every node was
-abbrev pub Passed : (S : Sheet) (bound : ℕ → ℕ) (graph differences : List ℕ) (limits : R.Header) (first next kept steps levels steps' levels' : List ℕ) (whole : Bool) → Course → Type 0
-Passed S bound graph differences limits first next kept steps levels steps' levels' whole Is.Late = NoneFrom S bound limits.horizon
-Passed S bound graph differences limits first next kept steps levels steps' levels' whole Is.Stopped =
+abbrev pub Passed : (S : Sheet) (bound : ℕ → ℕ) (graph differences : List ℕ) (limits : R.Header) (first next kept steps levels steps' levels' : List ℕ) (whole : Bool) → Result Course Late → Type 0
+Passed S bound graph differences limits first next kept steps levels steps' levels' whole (Err late) = NoneFrom S bound limits.horizon
+Passed S bound graph differences limits first next kept steps levels steps' levels' whole (Ok Is.Stopped) =
     Halted S graph differences limits first next kept steps levels steps' levels' whole
-Passed S bound graph differences limits first next kept steps levels steps' levels' whole Is.Whole =
+Passed S bound graph differences limits first next kept steps levels steps' levels' whole (Ok Is.Whole) =
     Going S graph differences limits first next kept steps' levels' × Passing S (label_in steps levels) (size S) (label_in steps' levels')

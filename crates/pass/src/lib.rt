@@ -1,145 +1,84 @@
-// A pass: every node in id order gets the least label that its conditions and the present labels force. `first` has the lists of the differences
+// A pass: every node in id order gets the least label that its conditions and the present labels force. The search has the lists of the differences
 // that are heeded.
 #![tactic(auto)]
 
-ghost use Rattle.std.specs.Prelude.{◌≡◌, true, ℕ, ◌<◌, ◌≤◌};
+ghost use Rattle.std.specs.Prelude.{◌≡◌, true, ℕ, ◌<◌, ◌≤◌, is_ok};
 ghost use Rattle.types.specs.Code.{label_of};
 ghost use Rattle.bound.specs.Bound.{Summed};
+ghost use Rattle.bound.specs.Sought.{of_search};
 ghost use Rattle.sweep.specs.Sweep.{SomeFails};
 ghost use Rattle.pass.specs.Turn.{Underway, Onward, SettledNode, Turned, Passed};
 
-use bound::{Levels, Steps, base_label, latest_arrival, open_label, place_label, step_of};
+use bound::{Labels, Late, Search, open_label};
 use level::{Cuts, table_label};
-use rows::{Differences, Graph, Header, kind_in};
+use rows::kind_in;
 use sweep::some_fails_below;
 use types::{Kind, Label, Level, Step};
 
-// What a pass comes to. It stops where it is not to be whole and a difference that it has broken leads back to a node that had its turn.
+// How far a pass comes. It stops where it is not to be whole and a difference that it has broken leads back to a node that had its turn.
 #[derive(Clone, Copy)]
 pub enum Course {
-    Late,
     Stopped,
     Whole,
 }
 
 // The label of v in its turn.
-pub fn node_label(
-    graph: &Graph,
-    differences: &Differences,
-    limits: Header,
-    first: &[u32; 256],
-    next: &[u32; 1024],
-    kept: &mut Cuts,
-    steps: &Steps,
-    levels: &Levels,
-    v: u32,
-) -> Label
-    requires underway { Underway graph.now differences.now limits first.now next.now kept.old steps.now levels.now v }
-    requires v_lt_nodes { v < limits.nodes }
-    ensures { Onward graph.now differences.now limits first.now next.now kept.old steps.now levels.now v
-        (λ S bound. v < limits.nodes → SettledNode S kept.new steps.now levels.now v (label_of result)) }
+pub fn node_label(search: &Search, kept: &mut Cuts, labels: &Labels, v: u32) -> Label
+    requires underway { of_search Underway search.now kept.old labels.now.steps labels.now.levels v }
+    requires v_lt_nodes { v < search.now.limits.nodes }
+    ensures { of_search Onward search.now kept.old labels.now.steps labels.now.levels v
+        (λ S bound. v < search.now.limits.nodes → SettledNode S kept.new labels.now.steps labels.now.levels v (label_of result)) }
 {
-    let base = base_label(graph, differences, limits, first, next, steps, levels, v);
-    let kind = kind_in(graph, v);
-    match kind {
-        Kind::Logic => table_label(graph, steps, levels, kept, limits, v, base),
+    let graph = &search.tables.graph;
+    let limits = search.limits;
+    let base = search.base_label(labels, v);
+    match kind_in(graph, v) {
+        Kind::Logic => table_label(graph, labels, kept, limits, v, base),
         Kind::Input => base,
         Kind::Box { .. } => {
-            let latest = latest_arrival(graph, steps, levels, v, Level(limits.top), base);
+            let latest = labels.latest_arrival(graph, v, Level(limits.top), base);
             open_label(graph, v, limits.period, latest, limits.windows)
         }
     }
 }
 
 // Settles v: writes its label, unless it ends after the horizon.
-pub fn settle(
-    graph: &Graph,
-    differences: &Differences,
-    limits: Header,
-    first: &[u32; 256],
-    next: &[u32; 1024],
-    kept: &mut Cuts,
-    steps: &mut Steps,
-    levels: &mut Levels,
-    v: u32,
-) -> bool
-    requires underway { Underway graph.now differences.now limits first.now next.now kept.old steps.old levels.old v }
-    requires v_lt_nodes { v < limits.nodes }
-    ensures { Onward graph.now differences.now limits first.now next.now kept.old steps.old levels.old v
-        (λ S bound. v < limits.nodes → Turned S bound graph.now differences.now limits first.now next.now kept.new steps.old levels.old steps.new levels.new v result) }
+pub fn settle(search: &Search, kept: &mut Cuts, labels: &mut Labels, v: u32) -> Result<(), Late>
+    requires underway { of_search Underway search.now kept.old labels.old.steps labels.old.levels v }
+    requires v_lt_nodes { v < search.now.limits.nodes }
+    ensures { of_search Onward search.now kept.old labels.old.steps labels.old.levels v
+        (λ S bound. v < search.now.limits.nodes → of_search (Turned S bound) search.now kept.new labels.old.steps labels.old.levels labels.new.steps labels.new.levels v (is_ok result)) }
 {
-    let a = node_label(
-        graph,
-        differences,
-        limits,
-        first,
-        next,
-        kept,
-        steps,
-        levels,
-        v,
-    );
-    place_label(graph, steps, levels, v, a, limits.horizon)
+    let label = node_label(search, kept, labels, v);
+    labels.place_label(&search.tables.graph, v, label, search.limits.horizon)
 }
 
 // Whether v has left the step `was`, and a heeded difference from it to a lower node does not hold.
-pub fn leads_back(
-    differences: &Differences,
-    first: &[u32; 256],
-    steps: &Steps,
-    m: u32,
-    v: u32,
-    was: Step,
-) -> bool
-    requires v_bound { (v < 256) × (m ≤ 1024) }
-    requires by_index { (i : ℕ) → i < m → Summed differences.now steps.now i }
-    ensures { result ≡ true → SomeFails differences.now first.now steps.now m }
+pub fn leads_back(search: &Search, labels: &Labels, v: u32, was: Step) -> bool
+    requires v_bound { (v < 256) × (search.now.limits.differences ≤ 1024) }
+    requires by_index { (i : ℕ) → i < search.now.limits.differences → Summed search.now.tables.now.differences labels.now.steps i }
+    ensures { result ≡ true → SomeFails search.now.tables.now.differences search.now.first.now labels.now.steps search.now.limits.differences }
 {
-    let own = step_of(steps, v);
-    if own.0 <= was.0 {
-        return false;
-    }
-    some_fails_below(differences, first, steps, m, v)
+    labels.step_of(v).0 > was.0 && some_fails_below(search, labels, v)
 }
 
 // Settles every node in id order, unless one ends after the horizon. Where `whole` is not set it stops as soon as a node's rise leads back.
 pub fn pass(
-    graph: &Graph,
-    differences: &Differences,
-    limits: Header,
-    first: &[u32; 256],
-    next: &[u32; 1024],
+    search: &Search,
     kept: &mut Cuts,
-    steps: &mut Steps,
-    levels: &mut Levels,
+    labels: &mut Labels,
     whole: bool,
-) -> Course
-    requires { Underway graph.now differences.now limits first.now next.now kept.old steps.old levels.old 0 }
-    ensures { Onward graph.now differences.now limits first.now next.now kept.old steps.old levels.old 0
-        (λ S bound. Passed S bound graph.now differences.now limits first.now next.now kept.new steps.old levels.old steps.new levels.new whole result) }
+) -> Result<Course, Late>
+    requires { of_search Underway search.now kept.old labels.old.steps labels.old.levels 0 }
+    ensures { of_search Onward search.now kept.old labels.old.steps labels.old.levels 0
+        (λ S bound. of_search (Passed S bound) search.now kept.new labels.old.steps labels.old.levels labels.new.steps labels.new.levels whole result) }
 {
-    let mut v: u32 = 0;
-    while v < limits.nodes {
-        let was = step_of(steps, v);
-        if !settle(
-            graph,
-            differences,
-            limits,
-            first,
-            next,
-            kept,
-            steps,
-            levels,
-            v,
-        ) {
-            return Course::Late;
+    for v in 0..search.limits.nodes {
+        let was = labels.step_of(v);
+        settle(search, kept, labels, v)?;
+        if !whole && leads_back(search, labels, v, was) {
+            return Ok(Course::Stopped);
         }
-        if !whole {
-            if leads_back(differences, first, steps, limits.differences, v, was) {
-                return Course::Stopped;
-            }
-        }
-        v += 1;
     }
-    Course::Whole
+    Ok(Course::Whole)
 }

@@ -12,7 +12,7 @@ use Rattle.maps.specs.Legal.{CarryingCut, Legal, plan_latency}
 use Rattle.maps.specs.Least.{at, in_time, Labels, least, least_within, least_ever}
 use Rattle.maps.specs.Plan.{plan}
 use Rattle.maps.specs.Read.{Header}
-use Rattle.maps.specs.Outcome.{refusal, within, within_horizon, timed, windowed, labelled, cutless}
+use Rattle.maps.specs.Outcome.{Outcome, refusal, within, within_horizon, timed, windowed, labelled, cutless}
 use Rattle.maps.proofs.Planned.{latency-in-time, legal-carries}
 use Rattle.maps.proofs.Over.{get_d_over}
 use Rattle.rows.specs.Code.{header_meant}
@@ -28,7 +28,9 @@ use Rattle.cover.specs.Cover.{Covered}
 use Rattle.writing.specs.Bytes.{Small, flat_plan}
 use Rattle.writing.proofs.PlanBytes.{plan-bytes}
 use Rattle.timing.specs.Timing.{Times, is_never, is-late, is-in-time, is-past, is_within}
-use Rattle.timing.specs.declared.Timing.TheVariants as Is
+use Rattle.std.specs.Prelude.{Result, Ok, Err}
+use Rattle.types.specs.Code.{number_of, place_of}
+use Rattle.types.specs.declared.Refusal.{Refusal}
 use Rattle.planner.specs.Call.{Own}
 
 -- labels that are legal within the horizon
@@ -71,7 +73,7 @@ module _ {S : Sheet} {graph differences : List ℕ} {limits : R.Header} (steps l
         }
 
     -- the bytes written are those of the plan
-    pub planned : (marks cuts p : List ℕ) → Covered S (labels_in (size S) steps levels) marks cuts
+    pub planned : (marks : List Bool) (cuts p : List ℕ) → Covered S (labels_in (size S) steps levels) marks cuts
         → p ≡ flat_plan last limits.nodes steps levels marks cuts → p ≡ plan S (labels_in (size S) steps levels)
     planned marks cuts p c f =
         f ∙ ap (λ (n : ℕ). flat_plan last n steps levels marks cuts) k.nodes ∙ plan-bytes S steps levels marks cuts c last e
@@ -112,26 +114,27 @@ module _ {S : Sheet} {graph differences : List ℕ} {limits : R.Header} (steps l
   own-labels : {r : Labels} → least_within S limits.horizon ≡ r → least_within S S.horizon ≡ r
   own-labels e = ap (least_within S) (sym own) ∙ e
 
-  pub never-outcome : Times S limits.horizon labels Is.Never → (room : ℕ) → labelled S room S.windows ≡ refusal 12 0
-  never-outcome (is_never o e) room = plain-labelled S o room ∙ ap (timed S room) e
+  -- the outcome that each answer comes to: the plan of the labels, or the refusal
+  abbrev pub came : Result (Unit {0}) Refusal → ℕ → Outcome
+  came (Ok done) room = within room (plan S labels)
+  came (Err w) room = refusal (number_of w) (place_of w)
 
-  pub late-outcome : Times S limits.horizon labels Is.Late → (room : ℕ) → labelled S room S.windows ≡ refusal 7 0
-  late-outcome (is-late o e q) room = tested o e false q room
-  late-outcome (is-past o e) room = entries-labelled S o room ∙ ap (windowed S room) (own-labels e)
+  pub times-outcome : {r : Result (Unit {0}) Refusal} → Times S limits.horizon labels r → (room : ℕ) → labelled S room S.windows ≡ came r room
+  times-outcome (is_never o e) room = plain-labelled S o room ∙ ap (timed S room) e
+  times-outcome (is-late o e q) room = tested o e false q room
+  times-outcome (is-in-time o e q) room = tested o e true q room
+  times-outcome (is-past o e) room = entries-labelled S o room ∙ ap (windowed S room) (own-labels e)
+  times-outcome (is_within o e) room = entries-labelled S o room ∙ ap (windowed S room) (own-labels e)
 
   -- p is the plan of labels in time, which are legal
-  pub found-outcome : Times S limits.horizon labels Is.InTime → (p : List ℕ) → p ≡ plan S (labels_in (size S) steps levels) → (room : ℕ)
+  pub found-outcome : Times S limits.horizon labels (Ok tt) → (p : List ℕ) → p ≡ plan S (labels_in (size S) steps levels) → (room : ℕ)
       → labelled S room S.windows ≡ within room p
-  found-outcome t p r room = planned t ∙ ap (λ (L : List Label). within room (plan S L)) nodes-are ∙ ap (within room) (sym r)
-    where
-      planned : Times S limits.horizon labels Is.InTime → labelled S room S.windows ≡ within room (plan S labels)
-      planned (is-in-time o e q) = tested o e true q room
-      planned (is_within o e) = entries-labelled S o room ∙ ap (windowed S room) (own-labels e)
+  found-outcome t p r room = times-outcome t room ∙ ap (λ (L : List Label). within room (plan S L)) nodes-are ∙ ap (within room) (sym r)
 
-  pub found-legal : cutless S ≡ [] → Times S limits.horizon labels Is.InTime → Legal S (at (labels_in (size S) steps levels)) S.horizon
+  pub found-legal : cutless S ≡ [] → Times S limits.horizon labels (Ok tt) → Legal S (at (labels_in (size S) steps levels)) S.horizon
   found-legal cuts t = subst (λ (L : List Label). Legal S (at L) S.horizon) nodes-are (legal t)
     where
-      legal : Times S limits.horizon labels Is.InTime → Legal S (at labels) S.horizon
+      legal : Times S limits.horizon labels (Ok tt) → Legal S (at labels) S.horizon
       legal (is-in-time o e q) = (in-time S g.well o cuts labels (ever-least S g.well o cuts labels e) S.horizon (ap (in_time S labels) (sym own) ∙ q)).legal
       legal (is_within o e) = (within-least S g.well cuts labels (own-labels e)).legal
 

@@ -5,7 +5,7 @@ ghost use Rattle.blif.specs.Limits.{caller};
 ghost use Rattle.blif.specs.Import.{importing};
 
 use importer::import_blif;
-use out_bytes::{Answer, answer_of};
+use out_bytes::Answer;
 
 pub fn maps_import(
     text: &[u8],
@@ -19,5 +19,5 @@ pub fn maps_import(
     ensures { Answered (importing text.now (caller leaves top horizon table level) (length sheet.old))
         result.number result.place sheet.old sheet.new }
 {
-    answer_of(import_blif(text, leaves, top, horizon, table, level, sheet))
+    import_blif(text, leaves, top, horizon, table, level, sheet).into()
 }

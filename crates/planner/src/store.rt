@@ -4,7 +4,8 @@ ghost use Rattle.maps.specs.Write.{writing};
 ghost use Rattle.out_bytes.specs.Outcome.{Answered};
 ghost use Rattle.records.specs.Rows.{records_in};
 
-use out_bytes::{Answer, answer_of};
+use out_bytes::Answer;
+use records::Records;
 use writer::write;
 
 pub fn maps_write_rows(
@@ -21,7 +22,7 @@ pub fn maps_write_rows(
     ensures { Answered (writing (records_in leaves top horizon nodes.now operands.now differences.now period windows.now) (length buffer.old))
         result.number result.place buffer.old buffer.new }
 {
-    answer_of(write(
+    let records = Records {
         leaves,
         top,
         horizon,
@@ -30,6 +31,6 @@ pub fn maps_write_rows(
         differences,
         period,
         windows,
-        buffer,
-    ))
+    };
+    write(&records, buffer).into()
 }

@@ -1,18 +1,18 @@
 -- The answer to a question about cuts at each way out, and that there is one answer.
-use Prim.Native.Nat.{ℕ, zero, suc, ◌≤◌, ◌<◌}
+use Prim.Native.Nat.{ℕ, ◌+◌, ◌≤◌, ◌<◌}
 use mathlib.Core.Path.{◌≡◌, refl, sym, subst, ap, ◌∙◌}
 use mathlib.Core.Bool.{Bool, true, false}
-use mathlib.Core.List.{List, [], ◌∷◌, ◌++◌}
+use mathlib.Core.List.{List}
 use native.Mathlib.Omega.{arith}
-use lib.ListN.{length, get_or, set, take, replicate, length-take}
-use Rattle.maps.specs.Sheet.{Sheet, logic, node, size, is_logic}
+use lib.ListN.{length, take, length-take}
+use Rattle.maps.specs.Sheet.{Sheet, size, is_logic}
 use Rattle.maps.specs.Cut.{logic_node}
 use Rattle.maps.specs.Read.{Header, sheet, refused, parse}
 use Rattle.maps.proofs.Enumerate.{clash}
 use Rattle.maps.proofs.Chosen.{ahead-antisym}
 use Rattle.rows.specs.Table.{kind_at}
 use Rattle.sheet.proofs.After.{Held}
-use Rattle.rows.proofs.Tables.{kind-tabled}
+use Rattle.rows.proofs.SheetTables.{kind-tabled}
 use Rattle.cut.specs.Question.{code_for, AllowedCut, Asked, Fewest, Best}
 use Rattle.probe.specs.Probe.{allowed_in, Coded, Asks, Prepared, NoneWithin, HasCut, has, lacks, unasked, padded, CutAnswer, chosen, none, outside}
 
@@ -61,16 +61,6 @@ module _ (bytes : List ℕ) (v k : ℕ) where
         is_logic-v : logic_node held.held v ≡ true
         is_logic-v = sym (kind v (small held v l)) ∙ one
 
--- what the answer of `prepare` says
-module _ (bytes allowed : List ℕ) (v k : ℕ) (graph code : List ℕ) where
-  pub when_true : (b : Bool) → Prepared b bytes allowed v k graph code → b ≡ true → Prepared true bytes allowed v k graph code
-  when_true true h e = h
-  when_true false h e = clash e
-
-  pub when_false : (b : Bool) → Prepared b bytes allowed v k graph code → b ≡ false → Prepared false bytes allowed v k graph code
-  when_false true h e = clash (sym e)
-  when_false false h e = h
-
 -- what holds of the sheet that was read holds of every sheet that the bytes are
 same-sheet : (bytes : List ℕ) (v k : ℕ) (S R : Sheet) → Asks bytes v k S → Asks bytes v k R → S ≡ R
 same-sheet bytes v k S R a b =
@@ -79,40 +69,24 @@ same-sheet bytes v k S R a b =
     cc
 
 -- the answers to a question about the sheet
-module _ (bytes allowed : List ℕ) (v k r : ℕ) (graph code leaves : List ℕ) (p : Prepared true bytes allowed v k graph code) where
-  pub has_one : ((S : Sheet) (may : ℕ → Bool) → Asked S may v graph code → (r ≤ k → AllowedCut S may v (take r leaves)) × (k < r → Fewest S may v k r))
-      → r ≤ k → HasCut bytes allowed v k 1
-  has_one h l = has p.0 p.1 (take r leaves) ((h p.0 (allowed_in allowed) p.2).0 l) (omega (arith, length-take r leaves)) refl
+module _ (bytes allowed : List ℕ) (v k : ℕ) (graph code leaves : List ℕ) (p : Prepared true bytes allowed v k graph code) where
+  pub has_one : (r : ℕ) → r ≤ k → ((S : Sheet) (may : ℕ → Bool) → Asked S may v graph code → AllowedCut S may v (take r leaves)) → HasCut bytes allowed v k 1
+  has_one r l h = has p.0 p.1 (take r leaves) (h p.0 (allowed_in allowed) p.2) (omega (arith, length-take r leaves)) refl
 
-  pub has-none : ((S : Sheet) (may : ℕ → Bool) → Asked S may v graph code → (r ≤ k → AllowedCut S may v (take r leaves)) × (k < r → Fewest S may v k r))
-      → k < r → HasCut bytes allowed v k 0
-  has-none h l = lacks p.0 p.1 (λ c a. omega (arith, ((h p.0 (allowed_in allowed) p.2).1 l).least c a)) refl
+  pub has-none : ((S : Sheet) (may : ℕ → Bool) → Asked S may v graph code → Fewest S may v k (k + 1)) → HasCut bytes allowed v k 0
+  has-none h = lacks p.0 p.1 (λ c a. omega (arith, (h p.0 (allowed_in allowed) p.2).least c a)) refl
 
-  module _ (h : (S : Sheet) (may : ℕ → Bool) → Asked S may v graph code → (r ≤ k → Best S may v (take r leaves)) × Fewest S may v k r) where
-    counted : r ≤ k → length (take r leaves) ≡ r
-    counted l =
-        let x = h p.0 (allowed_in allowed) p.2 in
-        let b = x.0 l in
-        let o = x.1.met l in
-        omega (arith, b.fewest o.0 o.1, o.2, x.1.least (take r leaves) b.is_allowed)
+  pub cut-chosen : (list : List ℕ) (r : ℕ) → r ≤ k
+      → ((S : Sheet) (may : ℕ → Bool) → Asked S may v graph code → Best S may v (take r leaves) × Fewest S may v k r)
+      → CutAnswer bytes allowed v k list r (padded (take r leaves))
+  cut-chosen list r l h =
+      let x = h p.0 (allowed_in allowed) p.2 in
+      let o = x.1.met l in
+      let counted : length (take r leaves) ≡ r = omega (arith, x.0.fewest o.0 o.1, o.2, x.1.least (take r leaves) x.0.is_allowed) in
+      chosen p.0 p.1 (take r leaves) x.0 (omega arith) (sym counted) refl
 
-    pub cut-wide : r ≤ k → r ≤ length leaves
-    cut-wide l = omega (arith, counted l, length-take r leaves)
-
-    pub cut-chosen : (list : List ℕ) → r ≤ k → CutAnswer bytes allowed v k list r (padded (take r leaves))
-    cut-chosen list l =
-        chosen p.0 p.1 (take r leaves) ((h p.0 (allowed_in allowed) p.2).0 l) (omega (arith, counted l)) (sym (counted l)) refl
-
-    pub cut-none : (list : List ℕ) → k < r → CutAnswer bytes allowed v k list r list
-    cut-none list l =
-        let f = (h p.0 (allowed_in allowed) p.2).1 in
-        none p.0 p.1 (λ c a. omega (arith, f.least c a)) (omega (arith, f.most)) refl
-
--- one leaf more is written where 0 stood
-pub padded-more : (xs : List ℕ) (i k : ℕ) → i < length xs → set (take i xs ++ replicate (suc k) 0) i (get_or xs i 0) ≡ take (suc i) xs ++ replicate k 0
-padded-more [] i k l = absurd (omega arith)
-padded-more (x ∷ xs) zero k l = refl
-padded-more (x ∷ xs) (suc i) k l = ap (λ (r : List ℕ). x ∷ r) (padded-more xs i k (omega arith))
+  pub cut-none : (list : List ℕ) → ((S : Sheet) (may : ℕ → Bool) → Asked S may v graph code → Fewest S may v k (k + 1)) → CutAnswer bytes allowed v k list (k + 1) list
+  cut-none list h = none p.0 p.1 (λ c a. omega (arith, (h p.0 (allowed_in allowed) p.2).least c a)) refl refl
 
 -- there is one answer
 module _ (bytes allowed : List ℕ) (v k : ℕ) where

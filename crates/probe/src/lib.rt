@@ -5,4 +5,4 @@ mod cuts;
 mod reading;
 
 pub use cuts::{maps_cut, maps_has_cut};
-pub use reading::{ReadAnswer, maps_read};
+pub use reading::maps_read;

@@ -6,7 +6,7 @@ ghost use Rattle.maps.specs.Read.{parse};
 ghost use Rattle.sheet.specs.Answer.{read_after, answer_number, answer_place};
 ghost use Rattle.probe.specs.Probe.{HasCut, CutAnswer};
 
-use probe::ReadAnswer;
+use out_bytes::Answer;
 use rows::{Differences, Graph};
 
 #[unsafe(no_mangle)]
@@ -14,7 +14,7 @@ pub extern "C" fn maps_read(
     sheet: &[u8],
     graph: &mut Graph,
     differences: &mut Differences,
-) -> ReadAnswer
+) -> Answer
     ensures { (result.number ≡ answer_number (read_after (parse sheet.now) graph.old differences.old).answer)
         × (result.place ≡ answer_place (read_after (parse sheet.now) graph.old differences.old).answer)
         × (graph.new ≡ (read_after (parse sheet.now) graph.old differences.old).graph)

@@ -6,14 +6,14 @@ ghost use Rattle.std.specs.Prelude.{◌≡◌, min, max};
 ghost use Rattle.ranges.specs.Ranges.{kind_ranges, span_of, clock_meant, field_range};
 
 // The values from low to high.
-#[derive(Clone, Copy)]
+#[derive(Clone, Copy, Debug, PartialEq, Eq)]
 pub struct Span {
     pub low: u32,
     pub high: u32,
 }
 
 // The ranges of a node's fields: d, lat, q where lat is 1 or more, operand count. A delay and a q are also at most T.
-#[derive(Clone, Copy)]
+#[derive(Clone, Copy, Debug, PartialEq, Eq)]
 pub struct Ranges {
     pub delay: Span,
     pub latency: Span,
@@ -45,7 +45,7 @@ const KIND_RANGES: [Ranges; 3] = [
 
 // The fields whose range does not depend on a kind: K, T, H, n, m, a node's kind and mark, an id (also below n), the w of a difference; P, how many
 // entries of windows there are (also at most n), and an entry's from (also below P) and to (also above from and at most P).
-#[derive(Clone, Copy)]
+#[derive(Clone, Copy, Debug, PartialEq, Eq)]
 pub enum Field {
     Leaves,
     Top,
@@ -89,34 +89,18 @@ const FIELD_RANGES: [Span; 13] = [
 pub fn ranges_of(code: u32) -> Ranges
     ensures { result ≡ kind_ranges code }
 {
-    if code == 0 {
-        return KIND_RANGES[0];
+    match code {
+        0 => KIND_RANGES[0],
+        1 => KIND_RANGES[1],
+        _ => KIND_RANGES[2],
     }
-    if code == 1 {
-        return KIND_RANGES[1];
-    }
-    KIND_RANGES[2]
 }
 
 // The range of a field.
 pub fn range_of(field: Field) -> Span
     ensures { result ≡ span_of (field_range field) }
 {
-    match field {
-        Field::Leaves => FIELD_RANGES[0],
-        Field::Top => FIELD_RANGES[1],
-        Field::Horizon => FIELD_RANGES[2],
-        Field::Nodes => FIELD_RANGES[3],
-        Field::Differences => FIELD_RANGES[4],
-        Field::Kind => FIELD_RANGES[5],
-        Field::Mark => FIELD_RANGES[6],
-        Field::Id => FIELD_RANGES[7],
-        Field::Weight => FIELD_RANGES[8],
-        Field::Period => FIELD_RANGES[9],
-        Field::Windows => FIELD_RANGES[10],
-        Field::From => FIELD_RANGES[11],
-        Field::To => FIELD_RANGES[12],
-    }
+    FIELD_RANGES[field as usize]
 }
 
 impl Ranges {
@@ -125,10 +109,10 @@ impl Ranges {
         ensures { result ≡ span_of (clock_meant top self.clock latency) }
     {
         if latency == 0 {
-            return Span { low: 0, high: 0 };
+            Span { low: 0, high: 0 }
+        } else {
+            self.clock.up_to(top)
         }
-        let clocks = self.clock;
-        clocks.up_to(top)
     }
 }
 
@@ -137,25 +121,19 @@ impl Span {
     pub fn up_to(self, most: u32) -> Span
         ensures { (result.low ≡ self.low) × (result.high ≡ min most self.high) }
     {
-        if most < self.high {
-            return Span {
-                low: self.low,
-                high: most,
-            };
+        Span {
+            low: self.low,
+            high: self.high.min(most),
         }
-        self
     }
 
     // The values that are also at least `least`.
     pub fn at_least(self, least: u32) -> Span
         ensures { (result.low ≡ max least self.low) × (result.high ≡ self.high) }
     {
-        if self.low < least {
-            return Span {
-                low: least,
-                high: self.high,
-            };
+        Span {
+            low: self.low.max(least),
+            high: self.high,
         }
-        self
     }
 }

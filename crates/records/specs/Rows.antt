@@ -8,6 +8,7 @@ use Rattle.maps.specs.Write.{Entry, node_numbers, difference_numbers, window_num
 use Rattle.records.specs.declared.NodeRow.{NodeRow}
 use Rattle.records.specs.declared.DifferenceRow.{DifferenceRow}
 use Rattle.records.specs.declared.WindowRow.{WindowRow}
+use Rattle.records.specs.declared.Records as Given
 
 -- where the row of a node begins
 abbrev pub node_place : ℕ → ℕ
@@ -136,3 +137,7 @@ records_in k t h nodes operands differences p windows =
       period = p;
       windows = windows_in windows;
     }
+
+-- the records of a struct of them
+abbrev pub records_of : Given.Records → Records
+records_of r = records_in r.leaves r.top r.horizon r.nodes.now r.operands.now r.differences.now r.period r.windows.now

@@ -9,6 +9,9 @@ ghost use Rattle.records.specs.Rows.{node_place, mark_place, difference_place, w
 // How many numbers the row of a node has.
 pub const NODE: usize = 6;
 
+// Which of them is the output mark.
+const OUTPUT: usize = 1;
+
 // How many numbers the row of a difference has.
 const DIFFERENCE: usize = 3;
 
@@ -42,6 +45,20 @@ pub struct WindowRow {
     pub to: u32,
 }
 
+// A circuit as records: K, T, H, the rows of its nodes with the operand ids of all of them, those of its differences, the period and the rows of its
+// windows.
+#[derive(Clone, Copy)]
+pub struct Records<'a> {
+    pub leaves: u32,
+    pub top: u32,
+    pub horizon: u32,
+    pub nodes: &'a [u32],
+    pub operands: &'a [u32],
+    pub differences: &'a [u32],
+    pub period: u32,
+    pub windows: &'a [u32],
+}
+
 // How many nodes there are.
 pub fn node_count(nodes: &[u32]) -> usize
     ensures { result ≡ rows_in node_place nodes.now }
@@ -68,14 +85,14 @@ pub fn node_at(nodes: &[u32], v: usize) -> NodeRow
     requires { node_place (v + 1) ≤ length nodes.now }
     ensures { result ≡ node_row nodes.now v }
 {
-    let row = v * NODE;
+    let row = &nodes[v * NODE..];
     NodeRow {
-        kind: nodes[row],
-        output: nodes[row + 1],
-        delay: nodes[row + 2],
-        latency: nodes[row + 3],
-        end: nodes[row + 4],
-        clock: nodes[row + 5],
+        kind: row[0],
+        output: row[1],
+        delay: row[2],
+        latency: row[3],
+        end: row[4],
+        clock: row[5],
     }
 }
 
@@ -93,12 +110,15 @@ pub fn put_row(nodes: &mut [u32], v: usize, row: NodeRow)
     requires { node_place (v + 1) ≤ length nodes.old }
     ensures { (take (node_place (v + 1)) nodes.new ≡ take (node_place v) nodes.old ++ row_numbers row) × (length nodes.new ≡ length nodes.old) }
 {
-    let first = append(nodes, v * NODE, row.kind);
-    let second = append(nodes, first, row.output);
-    let third = append(nodes, second, row.delay);
-    let fourth = append(nodes, third, row.latency);
-    let fifth = append(nodes, fourth, row.end);
-    append(nodes, fifth, row.clock);
+    let numbers = [
+        row.kind,
+        row.output,
+        row.delay,
+        row.latency,
+        row.end,
+        row.clock,
+    ];
+    nodes[v * NODE..(v + 1) * NODE].copy_from_slice(&numbers);
 }
 
 // Marks node v as an output.
@@ -106,7 +126,7 @@ pub fn mark_output(nodes: &mut [u32], v: usize)
     requires { node_place (v + 1) ≤ length nodes.old }
     ensures { nodes.new ≡ set nodes.old (mark_place v) 1 }
 {
-    nodes[v * NODE + 1] = 1;
+    nodes[v * NODE + OUTPUT] = 1;
 }
 
 // The row of difference j.
@@ -114,11 +134,11 @@ pub fn difference_at(differences: &[u32], j: usize) -> DifferenceRow
     requires { difference_place (j + 1) ≤ length differences.now }
     ensures { result ≡ difference_row differences.now j }
 {
-    let row = j * DIFFERENCE;
+    let row = &differences[j * DIFFERENCE..];
     DifferenceRow {
-        from: differences[row],
-        to: differences[row + 1],
-        weight: differences[row + 2],
+        from: row[0],
+        to: row[1],
+        weight: row[2],
     }
 }
 
@@ -127,11 +147,11 @@ pub fn window_at(windows: &[u32], j: usize) -> WindowRow
     requires { window_place (j + 1) ≤ length windows.now }
     ensures { result ≡ window_row windows.now j }
 {
-    let row = j * WINDOW;
+    let row = &windows[j * WINDOW..];
     WindowRow {
-        id: windows[row],
-        from: windows[row + 1],
-        to: windows[row + 2],
+        id: row[0],
+        from: row[1],
+        to: row[2],
     }
 }
 
@@ -139,13 +159,8 @@ pub fn window_at(windows: &[u32], j: usize) -> WindowRow
 pub fn is_box(nodes: &[u32], v: u32) -> bool
     ensures { result ≡ box_at nodes.now v }
 {
-    let n = node_count(nodes);
     let id = v as usize;
-    if n <= id {
-        return false;
-    }
-    let row = node_at(nodes, id);
-    2 <= row.kind
+    id < node_count(nodes) && 2 <= node_at(nodes, id).kind
 }
 
 // Where the operands of node v end: not past the array.
@@ -153,20 +168,16 @@ pub fn end_of(nodes: &[u32], operands: &[u32], v: usize) -> usize
     requires { node_place (v + 1) ≤ length nodes.now }
     ensures { result ≡ end_of nodes.now operands.now (v + 1) }
 {
-    let row = node_at(nodes, v);
-    let end = row.end as usize;
-    if operands.len() < end {
-        return operands.len();
-    }
-    end
+    operands.len().min(node_at(nodes, v).end as usize)
 }
 
 // The code of the w with these bits: 2w, or -2w - 1 where w is negative.
 pub fn code_of(bits: u32) -> u32
     ensures { result ≡ code_of_weight (signed bits) }
 {
-    if bits < 2147483648 {
-        return 2 * bits;
+    if bits <= i32::MAX as u32 {
+        2 * bits
+    } else {
+        2 * (u32::MAX - bits) + 1
     }
-    2 * (4294967295 - bits) + 1
 }

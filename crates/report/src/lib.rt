@@ -6,8 +6,7 @@ ghost use Rattle.std.specs.Io.KnownBytes.{Appends};
 ghost use Rattle.maps.specs.Outcome.{outcome, outcome_number};
 ghost use Rattle.types.specs.Code.{number_of, place_of};
 
-use number::{Cursor, Number, number_at};
-use out_bytes::Outcome;
+use number::{Cursor, Read, number_at};
 use std::io;
 use std::io::Write;
 use types::Refusal;
@@ -16,22 +15,13 @@ mod input;
 
 pub use input::read_full;
 
-// A number of the plan and where the next begins; past the end, 0 at the end.
-#[derive(Clone, Copy)]
-struct Item {
-    value: u32,
-    next: Cursor,
-}
-
-fn next_item(plan: &[u8], c: Cursor) -> Item {
-    let read = number_at(plan, c);
-    let Number::Value { value, next } = read else {
-        return Item {
-            value: 0,
-            next: Cursor { at: plan.len() },
-        };
-    };
-    Item { value, next }
+// The next number of the plan; past the end, 0 at the end.
+fn next_item(plan: &[u8], c: Cursor) -> Read {
+    let end = Cursor { at: plan.len() };
+    number_at(plan, c).unwrap_or(Read {
+        value: 0,
+        next: end,
+    })
 }
 
 // A space and a number.
@@ -111,10 +101,9 @@ pub fn report<W: Write>(out: &mut W, sheet: &[u8]) -> io::Result<u32>
     ensures { IfOk result (λ n. n ≡ outcome_number (outcome sheet.now 8192)) }
 {
     let mut buffer = [0u8; 8192];
-    let answer = planner::plan(sheet, &mut buffer);
-    match answer {
-        Outcome::Refused(why) => print_refusal(out, why),
-        Outcome::Written(n) => {
+    match planner::plan(sheet, &mut buffer) {
+        Err(why) => print_refusal(out, why),
+        Ok(n) => {
             print_first(out, &buffer, n)?;
             Ok(0)
         }

@@ -2,4 +2,4 @@ pub mod Cells
 pub mod StoredRows
 pub mod Stores
 pub mod StoredWindows
-pub mod Tables
+pub mod SheetTables

@@ -12,7 +12,7 @@ ghost use Rattle.rows.specs.Table.{mark_of, store_from, head_row, difference_row
 use types::{Kind, Level, Node, Step};
 
 // K, T, H, n, m; P and the count of entries.
-#[derive(Clone, Copy)]
+#[derive(Clone, Copy, Debug, PartialEq, Eq)]
 pub struct Header {
     pub leaves: u32,
     pub top: u32,
@@ -28,6 +28,21 @@ pub type Graph = [u32; 4096];
 
 // A row for each of 1,024 differences: from, to, plus, minus.
 pub type Differences = [u32; 4096];
+
+// The two tables of a sheet.
+#[derive(Clone, Copy)]
+pub struct Tables {
+    pub graph: Graph,
+    pub differences: Differences,
+}
+
+impl Tables {
+    // No row in either table: all numbers are 0.
+    pub const EMPTY: Tables = Tables {
+        graph: [0; 4096],
+        differences: [0; 4096],
+    };
+}
 
 // The numbers of a node's row, and where each stands in it; the kind stands first.
 const NODE: usize = 16;
@@ -56,7 +71,7 @@ const PLUS: usize = 2;
 const MINUS: usize = 3;
 
 // A difference (u, v, w): w is plus - minus.
-#[derive(Clone, Copy)]
+#[derive(Clone, Copy, Debug, PartialEq, Eq)]
 pub struct Difference {
     pub from: u32,
     pub to: u32,
@@ -65,7 +80,7 @@ pub struct Difference {
 }
 
 // The remainders of steps by the period in which a node may start: from `from` on and below `to`.
-#[derive(Clone, Copy)]
+#[derive(Clone, Copy, Debug, PartialEq, Eq)]
 pub struct Window {
     pub from: u32,
     pub to: u32,
@@ -75,15 +90,13 @@ pub struct Window {
 pub fn kind_of(code: u32, latency: u32, q: u32) -> Kind
     ensures { kind_meant result ≡ kind_of code latency q }
 {
-    if code == 0 {
-        return Kind::Input;
-    }
-    if code == 1 {
-        return Kind::Logic;
-    }
-    Kind::Box {
-        latency: Step(latency),
-        clock_to_q: Level(q),
+    match code {
+        0 => Kind::Input,
+        1 => Kind::Logic,
+        _ => Kind::Box {
+            latency: Step(latency),
+            clock_to_q: Level(q),
+        },
     }
 }
 
@@ -101,8 +114,7 @@ pub fn latency_of(kind: Kind) -> u32
     ensures { result ≡ latency_of (kind_meant kind) }
 {
     match kind {
-        Kind::Input => 0,
-        Kind::Logic => 0,
+        Kind::Input | Kind::Logic => 0,
         Kind::Box { latency, .. } => latency.0,
     }
 }
@@ -111,8 +123,7 @@ pub fn clock_to_q_of(kind: Kind) -> u32
     ensures { result ≡ clock_to_q_of (kind_meant kind) }
 {
     match kind {
-        Kind::Input => 0,
-        Kind::Logic => 0,
+        Kind::Input | Kind::Logic => 0,
         Kind::Box { clock_to_q, .. } => clock_to_q.0,
     }
 }
@@ -120,7 +131,7 @@ pub fn clock_to_q_of(kind: Kind) -> u32
 pub fn mark_of(output: bool) -> u32
     ensures { result ≡ mark_of output }
 {
-    if output { 1 } else { 0 }
+    u32::from(output)
 }
 
 // Stores the numbers of node v before its operand ids.
@@ -129,13 +140,11 @@ pub fn store_head(graph: &mut [u32], v: u32, node: Node)
     ensures { graph.new ≡ store_from graph.old (node_place v) (head_row (head_meant node)) }
 {
     let base = v as usize * NODE;
-    let kind = node.kind;
-    let delay = node.delay;
-    graph[base] = code_of(kind);
+    graph[base] = code_of(node.kind);
     graph[base + MARK] = mark_of(node.output);
-    graph[base + DELAY] = delay.0;
-    graph[base + LATENCY] = latency_of(kind);
-    graph[base + CLOCK] = clock_to_q_of(kind);
+    graph[base + DELAY] = node.delay.0;
+    graph[base + LATENCY] = latency_of(node.kind);
+    graph[base + CLOCK] = clock_to_q_of(node.kind);
     graph[base + COUNT] = node.operands;
 }
 
@@ -242,11 +251,10 @@ pub fn window_in(graph: &Graph, v: u32, period: u32) -> Window
 {
     let base = v as usize * NODE + WINDOW;
     let from = graph[base];
-    let to = graph[base + 1];
-    if to == 0 {
-        return Window { from, to: period };
+    match graph[base + 1] {
+        0 => Window { from, to: period },
+        to => Window { from, to },
     }
-    Window { from, to }
 }
 
 // The difference i.

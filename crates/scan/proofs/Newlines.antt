@@ -7,11 +7,13 @@ use native.Mathlib.Omega.{arith}
 use lib.Dec.{eqb, ltb}
 use lib.ListN.{length, take, drop, drop_of_length-le}
 use lib.Seq.{take-length}
+use Rattle.std.specs.List.{filter}
+use Rattle.std.proofs.lemmas.List.{length-take}
 use borrow.Author.Tests.{eq-eqb, ne_eqb, ltb-true, ltb-false}
 use Rattle.maps.specs.Number.{byte_at}
 use Rattle.blif.specs.Lines.{lines}
 use Rattle.blif.specs.Scan.{past, newlines, open_end}
-use Rattle.blif.proofs.Positions.{at-cons, newlines-at, lines-count}
+use Rattle.blif.proofs.Positions.{at-cons, lines-count}
 
 -- the line after a position begins after it
 pub later : {start end next size : ℕ} → start ≤ end → end ≤ next → start < size → (end < size → end < next) → start < next
@@ -35,25 +37,27 @@ module _ (s : List ℕ) (at : ℕ) where
   unfolding past
   past_end l = ap past (drop_of_length-le s l)
 
-  -- one byte more: those before it and from it on are all, and so are those after it
-  turn : at < length s → newlines (take (at + 1) s) ≡ newlines (take at s) + cond (eqb (byte_at s at) 10) 1 0
-  unfolding newlines
-  turn l = go (eqb (byte_at s at) 10) (ap newlines (at-cons s at l))
-    where
-      go : (b : Bool) → newlines (drop at s) ≡ cond b (suc (newlines (drop (at + 1) s))) (newlines (drop (at + 1) s)) → newlines (take (at + 1) s) ≡ newlines (take at s) + cond b 1 0
-      go true e = omega (arith, e, newlines-at s at, newlines-at s (at + 1))
-      go false e = omega (arith, e, newlines-at s at, newlines-at s (at + 1))
-
-  pub one-counted : at < length s → byte_at s at ≡ 10 → newlines (take (at + 1) s) ≡ newlines (take at s) + 1
-  one-counted l e = turn l ∙ rw (eq-eqb (byte_at s at) 10 e) refl
-
-  pub none-counted : at < length s → (byte_at s at ≡ 10 → ⊥) → newlines (take (at + 1) s) ≡ newlines (take at s)
-  none-counted l h = turn l ∙ rw (ne_eqb (byte_at s at) 10 h) (omega arith)
-
-pub none_before : (s : List ℕ) → newlines (take 0 s) ≡ 0
+-- the bytes 10 of a text, picked out, and no more of them before a position than bytes
+pub newlines-filtered : (s : List ℕ) → newlines s ≡ length (filter (λ b. eqb b 10) s)
 unfolding newlines
-none_before [] = refl
-none_before (b ∷ s) = refl
+newlines-filtered [] = refl
+newlines-filtered (b ∷ s) = go (eqb b 10) (newlines-filtered s)
+  where
+    go : (x : Bool) → newlines s ≡ length (filter (λ b. eqb b 10) s) → cond x (suc (newlines s)) (newlines s) ≡ length (cond x (b ∷ filter (λ b. eqb b 10) s) (filter (λ b. eqb b 10) s))
+    go true e = ap suc e
+    go false e = e
+
+newlines-few : (s : List ℕ) → newlines s ≤ length s
+unfolding newlines
+newlines-few [] = omega arith
+newlines-few (b ∷ s) = go (eqb b 10) (newlines-few s)
+  where
+    go : (x : Bool) → newlines s ≤ length s → cond x (suc (newlines s)) (newlines s) ≤ suc (length s)
+    go true l = omega (arith, l)
+    go false l = omega (arith, l)
+
+pub newlines-most : (s : List ℕ) (end : ℕ) → newlines (take end s) ≤ end
+newlines-most s end = omega (arith, newlines-few (take end s), length-take end s)
 
 -- the last line has no byte 10 where the last byte is none
 open-last : (s : List ℕ) → 0 < length s → open_end s ≡ not (eqb (byte_at s (length s - 1)) 10)

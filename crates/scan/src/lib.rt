@@ -3,10 +3,12 @@
 
 mod lines;
 mod name;
+mod skip;
 mod stops;
 mod words;
 
 pub use lines::{after_line, line_count, line_number};
-pub use name::{is_cover, name_hash, name_length, name_next, spells};
+pub use name::{NameBytes, is_cover, name_bytes, name_hash, name_length, spells};
+pub use skip::after_joins;
 pub use stops::{ends_line, joins};
-pub use words::{after_blanks, after_word, count_words, line_ends};
+pub use words::{LineWords, after_blanks, after_word, count_words, line_ends, line_words};

@@ -2,52 +2,27 @@
 ghost use Rattle.std.specs.Prelude.{◌+◌, ◌≤◌, ◌<◌, ◌≡◌, length, take, drop};
 ghost use Rattle.blif.specs.Lines.{lines};
 ghost use Rattle.blif.specs.Scan.{from, ends_line, past, past_line, newlines};
-ghost use Rattle.scan.specs.Steps.{Step};
 
-use crate::stops::{NEWLINE, ends_line, joins};
-
-// One turn: past a join or a byte of a line, or not on.
-fn line_step(text: &[u8], at: usize) -> usize
-    requires { at < length text.now }
-    ensures { Step ends_line text.now at result }
-{
-    if joins(text, at) {
-        return at + 2;
-    }
-    let b = text[at];
-    if ends_line(b) {
-        return at;
-    }
-    at + 1
-}
+use crate::skip::skip;
+use crate::stops::{NEWLINE, ends_line};
 
 // Where the joined line ends: at its byte 10 or its comment.
 fn line_end(text: &[u8], start: usize) -> usize
     ensures { (drop result text.now ≡ from ends_line (drop start text.now)) × (start ≤ result) }
 {
-    let mut at = start;
-    while at < text.len() {
-        let next = line_step(text, at);
-        if next == at {
-            return at;
-        }
-        at = next;
-    }
-    at
+    skip(text, start, ends_line)
 }
 
 // The position after the next byte 10.
 fn after_newline(text: &[u8], start: usize) -> usize
     ensures { (drop result text.now ≡ past (drop start text.now)) × (start ≤ result) × (start < length text.now → start < result) }
 {
-    let mut at = start;
-    while at < text.len() {
+    for at in start..text.len() {
         if text[at] == NEWLINE {
             return at + 1;
         }
-        at += 1;
     }
-    at
+    start.max(text.len())
 }
 
 // Where the next line begins, after the joined line from here on and its comment.
@@ -63,15 +38,7 @@ fn newline_count(text: &[u8], end: usize) -> usize
     requires { end ≤ length text.now }
     ensures { (result ≡ newlines (take end text.now)) × (result ≤ end) }
 {
-    let mut n: usize = 0;
-    let mut at: usize = 0;
-    while at < end {
-        if text[at] == NEWLINE {
-            n += 1;
-        }
-        at += 1;
-    }
-    n
+    text[..end].iter().filter(|b| **b == NEWLINE).count()
 }
 
 // The number of the line that a position stands on.
@@ -86,13 +53,9 @@ pub fn line_number(text: &[u8], at: usize) -> usize
 pub fn line_count(text: &[u8]) -> usize
     ensures { result ≡ length (lines text.now) }
 {
-    let size = text.len();
-    if size == 0 {
-        return 0;
+    let ended = newline_count(text, text.len());
+    match text.last() {
+        Some(b) if *b != NEWLINE => ended + 1,
+        _ => ended,
     }
-    let ended = newline_count(text, size);
-    if text[size - 1] == NEWLINE {
-        return ended;
-    }
-    ended + 1
 }

@@ -1,95 +1,68 @@
 // The words of a line, from position to position.
 ghost use Rattle.std.specs.Prelude.{◌≤◌, ◌<◌, ◌≡◌, length, drop};
+ghost use Rattle.std.specs.Iterator.{item_count};
 ghost use Rattle.blif.specs.Scan.{from, ends_word, ends_blanks, at_line_end, words_at};
-ghost use Rattle.scan.specs.Steps.{Step};
+ghost use Rattle.scan.specs.WordByWord.{words_left, NextWord};
 
-use crate::stops::{ends_line, ends_word, is_blank, joins};
-
-// One turn: past a join or a blank, or not on.
-fn blank_step(text: &[u8], at: usize) -> usize
-    requires { at < length text.now }
-    ensures { Step ends_blanks text.now at result }
-{
-    if joins(text, at) {
-        return at + 2;
-    }
-    let b = text[at];
-    if is_blank(b) {
-        return at + 1;
-    }
-    at
-}
-
-// One turn: past a join or a byte of a word, or not on.
-fn word_step(text: &[u8], at: usize) -> usize
-    requires { at < length text.now }
-    ensures { Step ends_word text.now at result }
-{
-    if joins(text, at) {
-        return at + 2;
-    }
-    let b = text[at];
-    if ends_word(b) {
-        return at;
-    }
-    at + 1
-}
+use crate::skip::skip;
+use crate::stops::{ends_line, ends_word, is_blank};
 
 // Where blanks and joins end.
 pub fn after_blanks(text: &[u8], start: usize) -> usize
     ensures { (drop result text.now ≡ from ends_blanks (drop start text.now)) × (start ≤ result) }
 {
-    let mut at = start;
-    while at < text.len() {
-        let next = blank_step(text, at);
-        if next == at {
-            return at;
-        }
-        at = next;
-    }
-    at
+    skip(text, start, |b| !is_blank(b))
 }
 
 // Where the word that begins here, or went on to here, ends.
 pub fn after_word(text: &[u8], start: usize) -> usize
     ensures { (drop result text.now ≡ from ends_word (drop start text.now)) × (start ≤ result) }
 {
-    let mut at = start;
-    while at < text.len() {
-        let next = word_step(text, at);
-        if next == at {
-            return at;
-        }
-        at = next;
-    }
-    at
+    skip(text, start, ends_word)
 }
 
 // Whether a line has no more words at a position after blanks.
 pub fn line_ends(text: &[u8], at: usize) -> bool
     ensures { result ≡ at_line_end (drop at text.now) }
 {
-    if text.len() <= at {
-        return true;
+    text.get(at).is_none_or(|b| ends_line(*b))
+}
+
+// The words of a line from a position on, each by the position where it begins.
+#[derive(Drop)]
+pub struct LineWords<'a> {
+    text: &'a [u8],
+    at: usize,
+}
+
+impl<'a> Iterator for LineWords<'a> {
+    type Item = usize;
+
+    ghost next_gives = { NextWord };
+
+    ghost remaining = { item_count words_left };
+
+    fn next(&mut self) -> Option<usize> {
+        let first = after_blanks(self.text, self.at);
+        if line_ends(self.text, first) {
+            return None;
+        }
+        self.at = after_word(self.text, first);
+        Some(first)
     }
-    let b = text[at];
-    ends_line(b)
+}
+
+// The words of the line from a position on.
+pub fn line_words(text: &[u8], at: usize) -> LineWords<'_>
+    ensures text { result.text.now ≡ text.now }
+    ensures left { words_left result ≡ words_at text.now at }
+{
+    LineWords { text, at }
 }
 
 // How many words the line has from here on.
 pub fn count_words(text: &[u8], start: usize) -> usize
     ensures { result ≡ length (words_at text.now start) }
 {
-    let mut n: usize = 0;
-    let mut at = after_blanks(text, start);
-    while at < text.len() {
-        let b = text[at];
-        if ends_line(b) {
-            return n;
-        }
-        let end = after_word(text, at + 1);
-        at = after_blanks(text, end);
-        n += 1;
-    }
-    n
+    line_words(text, start).count()
 }

@@ -44,12 +44,12 @@ use Rattle.bound.proofs.Asking.{linked-heeded}
 use Rattle.bound.proofs.Safety.{node_in, latency-is, graph-falls, difference-in, targets, kept_at, holds_at}
 use Rattle.hold.specs.Mark.{HeldIn, early-in, operand-in, target-in}
 use Rattle.hold.proofs.HoldMarks.{not-both}
+use Rattle.std.specs.Prelude.{Ok}
 use Rattle.pass.specs.Turn.{Passed}
 use Rattle.pass.specs.declared.Course.{Course}
-use Rattle.schedule.specs.declared.labels.Turn.{Turn}
-use Rattle.schedule.specs.declared.labels.Turn.TheVariants as Is
+use Rattle.pass.specs.declared.Course.TheVariants as Ran
 use Rattle.sweep.specs.Sweep.{AllHold, SomeFails, Sweepable, SweepEnds}
-use Rattle.schedule.specs.Round.{TurnEnds, was-late, was-stopped, was-last, goes_on, Heeds, Found, Relaxed, steps_in, shift_for, shift_in, climb_most, climbs_in, held_most, no_test, rounds_most, Testable}
+use Rattle.schedule.specs.Round.{CourseEnds, Heeds, Found, Relaxed, steps_in, shift_for, shift_in, climb_most, climbs_in, held_most, no_test, rounds_most, Testable}
 
 -- the shift where there are windows
 pub shift-some : (p k : ℕ) → (k ≡ 0 → ⊥) → p ≡ shift_for p k
@@ -279,12 +279,11 @@ pub record GoesOn (S : Sheet) (bound : ℕ → ℕ) (graph differences : List �
   pub fails : SomeFails differences first steps' limits.differences
   pub grown : steps_in limits.nodes steps ≤ steps_in limits.nodes steps'
 
--- least: the labels are found. late: nothing that heeds the bounds is legal within the horizon. again: they go on
-abbrev pub RoundEnds : (S : Sheet) (bound : ℕ → ℕ) (graph differences : List ℕ) (limits : R.Header) (first heeded next kept steps steps' levels' : List ℕ) (whole : Bool) → Turn → Type 0
-RoundEnds S bound graph differences limits first heeded next kept steps steps' levels' whole Is.Least =
+-- after the last pass the labels are found; after any other they go on
+abbrev pub RoundEnds : (S : Sheet) (bound : ℕ → ℕ) (graph differences : List ℕ) (limits : R.Header) (first heeded next kept steps steps' levels' : List ℕ) (whole : Bool) → (last : Bool) → Type 0
+RoundEnds S bound graph differences limits first heeded next kept steps steps' levels' whole true =
     Found S bound limits.horizon kept steps' levels'
-RoundEnds S bound graph differences limits first heeded next kept steps steps' levels' whole Is.Late = NoneFrom S bound limits.horizon
-RoundEnds S bound graph differences limits first heeded next kept steps steps' levels' whole Is.Again =
+RoundEnds S bound graph differences limits first heeded next kept steps steps' levels' whole false =
     GoesOn S bound graph differences limits first heeded next kept steps steps' levels' whole
 
 -- what a pass says by its course and by whether the differences hold
@@ -294,11 +293,11 @@ module _ {S : Sheet} {graph differences : List ℕ} {limits : R.Header} (g : Giv
   settled : (k : ℕ) → Passing S (label_in steps₀ levels₀) k (label_in steps levels) → Pass S bound (label_in steps levels) k
   settled k q = passing-pass S (closed g) (label_in steps₀ levels₀) p k (label_in steps levels) q
 
-  pub round-ends : {course : Course} {turn : Turn} → TurnEnds differences first steps limits.differences course turn
-      → Passed S bound graph differences limits heeded next kept steps₀ levels₀ steps levels whole course
-      → RoundEnds S bound graph differences limits first heeded next kept steps₀ steps levels whole turn
-  round-ends was-late h = h
-  round-ends was-stopped h =
+  pub round-ends : (course : Course) (last : Bool) → CourseEnds differences first steps limits.differences course last
+      → Passed S bound graph differences limits heeded next kept steps₀ levels₀ steps levels whole (Ok course)
+      → RoundEnds S bound graph differences limits first heeded next kept steps₀ steps levels whole last
+  round-ends Ran.Stopped true e h = absurd (not-both refl e)
+  round-ends Ran.Stopped false e h =
       let i = h.fails.0 in
       let l = h.fails.1 in
       record {
@@ -308,9 +307,9 @@ module _ {S : Sheet} {graph differences : List ℕ} {limits : R.Header} (g : Giv
         fails = (i, l, record { heeded = linked-heeded differences linked i l (targets g i l); fails = h.fails.2.fails });
         grown = pass-most g steps levels steps₀ levels₀ p h.turns h.passing;
       }
-  round-ends (was-last a) h =
+  round-ends Ran.Whole true a h =
       record { least = all-least g steps levels linked h.0.timed (settled (size S) h.1) a; timed = h.0.timed; all_kept = h.0.all_kept }
-  round-ends (goes_on f) h =
+  round-ends Ran.Whole false f h =
       record {
         going = h.0;
         pass = pass-again S (label_in steps levels) (size S) (settled (size S) h.1);

@@ -1,5 +1,5 @@
--- What the start, the turn after a pass, what is heeded then, and all rounds answer.
-use Rattle.std.specs.Prelude.{ℕ, suc, zero, ◌+◌, ◌-◌, ◌*◌, ◌≤◌, ◌<◌, ◌≡◌, Bool, true, List, ◌⊎◌, length, get_or}
+-- What the start, the end of a pass, what is heeded then, and all rounds answer.
+use Rattle.std.specs.Prelude.{ℕ, suc, zero, ◌+◌, ◌-◌, ◌*◌, ◌≤◌, ◌<◌, ◌≡◌, Bool, true, false, List, ◌⊎◌, length, get_or}
 use Rattle.maps.specs.Limits.{size_range, horizon_range, period_range, weight_most}
 use Rattle.maps.specs.Sheet.{Sheet}
 use Rattle.relax.specs.Guard.{unbounded, NoneFrom, LeastFrom}
@@ -13,8 +13,6 @@ use Rattle.hold.specs.Mark.{HeldIn}
 use Rattle.sweep.specs.Sweep.{AllHold, SomeFails}
 use Rattle.pass.specs.declared.Course.{Course}
 use Rattle.pass.specs.declared.Course.TheVariants as Ran
-use Rattle.schedule.specs.declared.labels.Turn.{Turn}
-use Rattle.schedule.specs.declared.labels.Turn.TheVariants as Is
 
 -- the first labels, each in time; or a latency that is not
 pub record First (graph steps levels : List ℕ) (n horizon : ℕ) : Type 0 where
@@ -65,12 +63,11 @@ rounds_most limits = held_most limits + held_most limits + no_test
 abbrev pub Testable : (limits : R.Header) (bound : ℕ → ℕ) (due : ℕ) → Type 0
 Testable limits bound due = (bound ≡ unbounded) ⊎ ((limits.horizon ≤ horizon_range.high) × (no_test ≤ due))
 
--- what a pass of each course comes to
-pub data TurnEnds (differences first steps : List ℕ) (m : ℕ) : Course → Turn → Type 0 where
-  was-late : TurnEnds differences first steps m Ran.Late Is.Late
-  was-stopped : TurnEnds differences first steps m Ran.Stopped Is.Again
-  was-last : AllHold differences first steps m → TurnEnds differences first steps m Ran.Whole Is.Least
-  goes_on : SomeFails differences first steps m → TurnEnds differences first steps m Ran.Whole Is.Again
+-- whether a pass was the last: one that stopped was not, and a whole one was where every difference holds
+abbrev pub CourseEnds : (differences first steps : List ℕ) (m : ℕ) → Course → (last : Bool) → Type 0
+CourseEnds differences first steps m Ran.Stopped last = last ≡ false
+CourseEnds differences first steps m Ran.Whole last =
+    Ends last (AllHold differences first steps m) (SomeFails differences first steps m)
 
 -- some differences are heeded, of which one fails; where the test was asked for every node is held
 pub record Heeds (graph differences : List ℕ) (limits : R.Header) (next steps heeded : List ℕ) (test : Bool) : Type 0 where

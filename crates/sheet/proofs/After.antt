@@ -13,7 +13,7 @@ use Rattle.sheet.specs.Answer.{header, Tables, tables, read_after}
 use Rattle.sheet.specs.Fill.{read_into}
 use Rattle.sheet.specs.Answer as Answers
 use Rattle.sheet.proofs.Readings.{read_whole, read-refused}
-use Rattle.rows.proofs.Tables.{tabled, listed, falling}
+use Rattle.rows.proofs.SheetTables.{tabled, listed, falling}
 
 -- the bytes are a sheet, which the header, the period, the count of its entries and the tables hold
 pub record Held (bytes graph differences : List ℕ) (h : Header) (p w : ℕ) : Type 0 where

@@ -5,115 +5,115 @@ ghost use Rattle.sheet.specs.Code.{progress_meant};
 ghost use Rattle.rows.specs.Table.{node_place, operand_place, difference_place, boxes_in};
 ghost use Rattle.sheet.specs.Fill.{filled, operand_into, operands_into, node_into, nodes_into, difference_into, differences_into, windows_into};
 
-use crate::node::{DifferenceRead, HeadRead, difference_at, head_at};
-use number::{Cursor, Number, operand_at, refusal_of};
+use crate::node::{difference_at, head_at};
+use number::{Cursor, Read, operand_at};
 use rows::{store_difference, store_head, store_operand, store_window};
 use types::Refusal;
-use window_read::{WindowRead, window_at};
-
-// How far reading into a table came.
-#[derive(Clone, Copy)]
-pub enum Progress {
-    Next(Cursor),
-    Refused(Refusal),
-}
+use window_read::window_at;
 
 // Reads the operand i of the node own.
-pub fn read_operand(sheet: &[u8], c: Cursor, own: u32, i: u32, graph: &mut [u32]) -> Progress
+#[tactic(auto, unfolding(crate::specs::Fill::operand_into, crate::specs::Fill::got_on))]
+pub fn read_operand(
+    sheet: &[u8],
+    c: Cursor,
+    own: u32,
+    i: u32,
+    graph: &mut [u32],
+) -> Result<Cursor, Refusal>
     requires { operand_place own + i < length graph.old }
     ensures { filled (progress_meant result) graph.new ≡ operand_into sheet.now own (operand_place own) i c.at graph.old }
 {
-    let read = operand_at(sheet, c, own);
-    let Number::Value { value, next } = read else {
-        return Progress::Refused(refusal_of(read));
-    };
+    let Read { value, next } = operand_at(sheet, c, own)?;
     store_operand(graph, own, i, value);
-    Progress::Next(next)
+    Ok(next)
 }
 
 // Reads count operands of the node own into its row.
-pub fn read_operands(sheet: &[u8], c: Cursor, own: u32, count: u32, graph: &mut [u32]) -> Progress
+pub fn read_operands(
+    sheet: &[u8],
+    c: Cursor,
+    own: u32,
+    count: u32,
+    graph: &mut [u32],
+) -> Result<Cursor, Refusal>
     requires { operand_place own + count ≤ length graph.old }
     ensures { filled (progress_meant result) graph.new ≡ operands_into sheet.now own (operand_place own) count c.at graph.old }
 {
     let mut at = c;
-    let mut i = 0;
-    while i < count {
-        let read = read_operand(sheet, at, own, i, graph);
-        let Progress::Next(next) = read else {
-            return read;
-        };
-        at = next;
-        i += 1;
+    for i in 0..count {
+        at = read_operand(sheet, at, own, i, graph)?;
     }
-    Progress::Next(at)
+    Ok(at)
 }
 
 // Reads the node own into its row.
-pub fn read_node(sheet: &[u8], c: Cursor, top: u32, own: u32, graph: &mut [u32]) -> Progress
+#[tactic(auto, unfolding(crate::specs::Fill::node_into, crate::specs::Fill::got_on))]
+pub fn read_node(
+    sheet: &[u8],
+    c: Cursor,
+    top: u32,
+    own: u32,
+    graph: &mut [u32],
+) -> Result<Cursor, Refusal>
     requires { (top ≤ top_range.high) × (node_place (own + 1) ≤ length graph.old) }
     ensures { filled (progress_meant result) graph.new ≡ node_into sheet.now top own c.at graph.old }
 {
-    let head = head_at(sheet, c, top);
-    match head {
-        HeadRead::Refused(why) => Progress::Refused(why),
-        HeadRead::Head(node, next) => {
-            store_head(graph, own, node);
-            let operands = node.operands;
-            read_operands(sheet, next, own, operands, graph)
-        }
-    }
+    let (node, next) = head_at(sheet, c, top)?;
+    store_head(graph, own, node);
+    read_operands(sheet, next, own, node.operands, graph)
 }
 
 // Reads the nodes 0 to n - 1 into the table.
-pub fn read_nodes(sheet: &[u8], c: Cursor, top: u32, n: u32, graph: &mut [u32]) -> Progress
+pub fn read_nodes(
+    sheet: &[u8],
+    c: Cursor,
+    top: u32,
+    n: u32,
+    graph: &mut [u32],
+) -> Result<Cursor, Refusal>
     requires { (top ≤ top_range.high) × (node_place n ≤ length graph.old) }
     ensures { filled (progress_meant result) graph.new ≡ nodes_into sheet.now top n c.at graph.old }
 {
     let mut at = c;
-    let mut own = 0;
-    while own < n {
-        let read = read_node(sheet, at, top, own, graph);
-        let Progress::Next(next) = read else {
-            return read;
-        };
-        at = next;
-        own += 1;
+    for own in 0..n {
+        at = read_node(sheet, at, top, own, graph)?;
     }
-    Progress::Next(at)
+    Ok(at)
 }
 
 // Reads the difference i into its row.
-pub fn read_difference(sheet: &[u8], c: Cursor, n: u32, i: u32, table: &mut [u32]) -> Progress
+#[tactic(auto, unfolding(crate::specs::Fill::difference_into, crate::specs::Fill::got_on))]
+pub fn read_difference(
+    sheet: &[u8],
+    c: Cursor,
+    n: u32,
+    i: u32,
+    table: &mut [u32],
+) -> Result<Cursor, Refusal>
     requires { (0 < n) × (n ≤ size_range.high) × (difference_place (i + 1) ≤ length table.old) }
     ensures { filled (progress_meant result) table.new ≡ difference_into sheet.now n i c.at table.old }
 {
-    let read = difference_at(sheet, c, n);
-    match read {
-        DifferenceRead::Refused(why) => Progress::Refused(why),
-        DifferenceRead::Value(difference, next) => {
-            store_difference(table, i, difference);
-            Progress::Next(next)
-        }
-    }
+    let (difference, next) = difference_at(sheet, c, n)?;
+    store_difference(table, i, difference);
+    Ok(next)
 }
 
 // Reads m differences into the table.
-pub fn read_differences(sheet: &[u8], c: Cursor, n: u32, m: u32, table: &mut [u32]) -> Progress
+pub fn read_differences(
+    sheet: &[u8],
+    c: Cursor,
+    n: u32,
+    m: u32,
+    table: &mut [u32],
+) -> Result<Cursor, Refusal>
     requires { (0 < n) × (n ≤ size_range.high) × (difference_place m ≤ length table.old) }
     ensures { filled (progress_meant result) table.new ≡ differences_into sheet.now n m c.at table.old }
 {
     let mut at = c;
-    let mut i = 0;
-    while i < m {
-        let read = read_difference(sheet, at, n, i, table);
-        let Progress::Next(next) = read else {
-            return read;
-        };
-        at = next;
-        i += 1;
+    for i in 0..m {
+        at = read_difference(sheet, at, n, i, table)?;
     }
-    Progress::Next(at)
+    Ok(at)
 }
 
 // Reads count entries, each into the row of its node.
@@ -124,27 +124,17 @@ pub fn read_windows(
     period: u32,
     count: u32,
     graph: &mut [u32],
-) -> Progress
+) -> Result<Cursor, Refusal>
     requires { (0 < n) × (n ≤ size_range.high) × (node_place n ≤ length graph.old) × (0 < period) × (period ≤ period_range.high) }
     ensures { filled (progress_meant result) graph.new ≡ windows_into sheet.now n (boxes_in graph.old) period count 0 c.at graph.old }
 {
     let mut at = c;
     let mut low = 0;
-    let mut i = 0;
-    while i < count {
-        let read = window_at(sheet, at, n, period, low, graph);
-        match read {
-            WindowRead::Refused(why) => {
-                return Progress::Refused(why);
-            }
-            WindowRead::Value(entry, next) => {
-                let id = entry.id;
-                store_window(graph, id, entry.window);
-                at = next;
-                low = id + 1;
-            }
-        }
-        i += 1;
+    for _ in 0..count {
+        let (entry, next) = window_at(sheet, at, n, period, low, graph)?;
+        store_window(graph, entry.id, entry.window);
+        low = entry.id + 1;
+        at = next;
     }
-    Progress::Next(at)
+    Ok(at)
 }

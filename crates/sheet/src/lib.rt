@@ -5,4 +5,4 @@ mod fill;
 mod node;
 mod reader;
 
-pub use reader::{Reading, read_sheet};
+pub use reader::read_sheet;

@@ -1,17 +1,15 @@
 -- The names of a line as parts of its words after the first, and how many inputs its cover has.
 use Prim.Native.Nat.{ℕ, suc, ◌-◌, ◌≤◌}
 use mathlib.Core.Path.{◌≡◌, refl, sym, subst, ap, ◌∙◌}
-use mathlib.Core.Bool.{true}
 use mathlib.Core.List.{List, [], ◌∷◌, append-nil}
 use mathlib.Core.Logic.{inl, inr}
 use native.Mathlib.Omega.{arith}
 use lib.Dec.{leb}
-use lib.ListN.{length, get_or, take, drop, length-map}
+use lib.ListN.{length, take, drop, length-map}
 use lib.Seq.{take-length}
 use Rattle.blif.specs.Words.{Word}
-use Rattle.blif.specs.Subset.{cover, model, inputs, outputs, latch, init_of, last_of, names_line, Stage, Statement, stage_after}
-use Rattle.blif.specs.Names.{definition, inputs_of, defined, names_of, reads_of}
-use Rattle.blif.specs.Limits.{named, few_operands}
+use Rattle.blif.specs.Subset.{cover, inputs, init_of, last_of, names_line, Stage, stage_after}
+use Rattle.blif.specs.Names.{definition, inputs_of, names_of, reads_of}
 use Rattle.maps.specs.Sheet.{input}
 use Rattle.maps.specs.Limits.{operands_most}
 use Rattle.blif.proofs.Grammars.{init-last}
@@ -43,10 +41,6 @@ inputs-reads : (ns : List Word) → reads_of (inputs_of ns) ≡ []
 inputs-reads [] = refl
 inputs-reads (n ∷ ns) = inputs-reads ns
 
-pub parts-model : (ws : List Word) → length ws ≡ 1 → PartsOf (model (get_or ws 0 [])) ws (parts 0 0 1)
-parts-model [] e = absurd (omega (arith, e))
-parts-model (w ∷ ws) e = record { reads = refl; defines = refl; names = refl; few = refl; enough = omega arith; named-enough = omega arith; count = refl; alone = inl (omega arith) }
-
 pub parts-inputs : (ws : List Word) → PartsOf (inputs ws) ws (parts 0 (length ws) (length ws))
 parts-inputs ws = record {
   reads = inputs-reads ws;
@@ -58,9 +52,6 @@ parts-inputs ws = record {
   count = length-map ws (λ (n : Word). definition n input []);
   alone = inr (omega arith);
 }
-
-pub parts-outputs : (ws : List Word) → PartsOf (outputs ws) ws (parts 0 0 (length ws))
-parts-outputs ws = record { reads = refl; defines = refl; names = sym (take-length ws); few = refl; enough = omega arith; named-enough = omega arith; count = refl; alone = inl (omega arith) }
 
 parts-some : (w : Word) (ws : List Word) → PartsOf (names_line (w ∷ ws)) (w ∷ ws) (parts (length ws) 1 (suc (length ws)))
 parts-some w ws = record {
@@ -77,24 +68,6 @@ parts-some w ws = record {
 pub parts-names : (ws : List Word) → 1 ≤ length ws → PartsOf (names_line ws) ws (parts (length ws - 1) 1 (length ws))
 parts-names [] l = absurd (omega (arith, l))
 parts-names (w ∷ ws) l = let e : length ws ≡ suc (length ws) - 1 = omega arith in subst (λ n. PartsOf (names_line (w ∷ ws)) (w ∷ ws) (parts n 1 (suc (length ws)))) e (parts-some w ws)
-
-pub parts-latch : (ws : List Word) → 2 ≤ length ws → PartsOf (latch (get_or ws 0 []) (get_or ws 1 [])) ws (parts 1 1 2)
-parts-latch [] l = absurd (omega (arith, l))
-parts-latch (w ∷ []) l = absurd (omega (arith, l))
-parts-latch (w ∷ x ∷ ws) l = record { reads = refl; defines = refl; names = refl; few = refl; enough = omega arith; named-enough = omega arith; count = refl; alone = inl (omega arith) }
-
--- a line without a name
-pub parts_none : (s : Statement) (ws : List Word) → defined s ≡ [] → named s ≡ [] → few_operands s ≡ true → PartsOf s ws (parts 0 0 0)
-parts_none s ws d n f = record {
-  reads = ap reads_of d;
-  defines = ap names_of d;
-  names = n;
-  few = f;
-  enough = omega arith;
-  named-enough = omega arith;
-  count = ap length d;
-  alone = inl (omega arith);
-}
 
 -- the cover after a `.names` has as many inputs as it has words but one
 pub stage-names : (at : Stage) (ws : List Word) → 1 ≤ length ws → cover (length ws - 1) ≡ stage_after at (names_line ws)

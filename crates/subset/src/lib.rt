@@ -13,7 +13,7 @@ ghost use Rattle.subset.specs.Meant.{stage_meant, statement_meant, Shaped, Parts
 use scan::{after_blanks, after_word, is_cover, spells};
 
 // Where a line stands; a cover has so many inputs.
-#[derive(Clone, Copy)]
+#[derive(Clone, Copy, Debug, PartialEq, Eq)]
 pub enum Stage {
     First,
     Head,
@@ -23,7 +23,7 @@ pub enum Stage {
 }
 
 // What a line is. Its words after the first say the rest.
-#[derive(Clone, Copy)]
+#[derive(Clone, Copy, Debug, PartialEq, Eq)]
 pub enum Statement {
     Model,
     Inputs,
@@ -36,7 +36,7 @@ pub enum Statement {
 }
 
 // Of the words after the first: so many are read, then so many are defined; so many are names.
-#[derive(Clone, Copy)]
+#[derive(Clone, Copy, Debug, PartialEq, Eq)]
 pub struct Parts {
     pub reads: usize,
     pub defines: usize,
@@ -47,23 +47,14 @@ pub struct Parts {
 fn is_bit(text: &[u8], at: usize) -> bool
     ensures { result ≡ bit (name_at text.now at) }
 {
-    if spells(text, at, b"0") {
-        return true;
-    }
-    spells(text, at, b"1")
+    spells(text, at, b"0") || spells(text, at, b"1")
 }
 
 // Whether the name at a position is a latch's initial value.
 fn is_initial(text: &[u8], at: usize) -> bool
     ensures { result ≡ initial (name_at text.now at) }
 {
-    if is_bit(text, at) {
-        return true;
-    }
-    if spells(text, at, b"2") {
-        return true;
-    }
-    spells(text, at, b"3")
+    is_bit(text, at) || spells(text, at, b"2") || spells(text, at, b"3")
 }
 
 // Where the third word from a position begins.
@@ -72,40 +63,38 @@ fn third_word(text: &[u8], at: usize) -> usize
     ensures { name_at text.now result ≡ get_or (words_at text.now at) 2 [] }
 {
     let first = after_blanks(text, at);
-    let after_first = after_word(text, first);
-    let second = after_blanks(text, after_first);
-    let after_second = after_word(text, second);
-    after_blanks(text, after_second)
+    let second = after_blanks(text, after_word(text, first));
+    after_blanks(text, after_word(text, second))
 }
 
 // A `.model` by its words after the first: one name.
 fn model_line(count: usize) -> Statement
     ensures { ((ws : List Word) → length ws ≡ count → statement_meant result ws ≡ model_line ws) × Shaped result count }
 {
-    if count == 1 {
-        return Statement::Model;
+    match count {
+        1 => Statement::Model,
+        _ => Statement::Outside,
     }
-    Statement::Outside
 }
 
 // A `.names` by its words after the first.
 fn names_line(count: usize) -> Statement
     ensures { ((ws : List Word) → length ws ≡ count → statement_meant result ws ≡ names_line ws) × Shaped result count }
 {
-    if count == 0 {
-        return Statement::Outside;
+    match count {
+        0 => Statement::Outside,
+        _ => Statement::Names,
     }
-    Statement::Names
 }
 
 // An `.end`, which has no word after the first.
 fn end_line(count: usize) -> Statement
     ensures { ((ws : List Word) → length ws ≡ count → statement_meant result ws ≡ end_line ws) × Shaped result count }
 {
-    if count == 0 {
-        return Statement::End;
+    match count {
+        0 => Statement::End,
+        _ => Statement::Outside,
     }
-    Statement::Outside
 }
 
 // A `.latch` by its words after the first.
@@ -113,17 +102,11 @@ fn latch_line(text: &[u8], rest: usize, count: usize) -> Statement
     requires { count ≡ length (words_at text.now rest) }
     ensures { (statement_meant result (words_at text.now rest) ≡ latch_line (words_at text.now rest)) × Shaped result count }
 {
-    if count == 2 {
-        return Statement::Latch;
+    match count {
+        2 => Statement::Latch,
+        3 if is_initial(text, third_word(text, rest)) => Statement::Latch,
+        _ => Statement::Outside,
     }
-    if count != 3 {
-        return Statement::Outside;
-    }
-    let third = third_word(text, rest);
-    if is_initial(text, third) {
-        return Statement::Latch;
-    }
-    Statement::Outside
 }
 
 // A row of a cover with no inputs.
@@ -131,13 +114,11 @@ fn bare_row(text: &[u8], first: usize, rest: usize, count: usize) -> Statement
     requires { count ≡ length (words_at text.now rest) }
     ensures { (statement_meant result (words_at text.now rest) ≡ row_line 0 (name_at text.now first ∷ words_at text.now rest)) × Shaped result count }
 {
-    if count != 0 {
-        return Statement::Outside;
+    if count == 0 && is_bit(text, first) {
+        Statement::Row
+    } else {
+        Statement::Outside
     }
-    if is_bit(text, first) {
-        return Statement::Row;
-    }
-    Statement::Outside
 }
 
 // A row of a cover with so many inputs.
@@ -146,19 +127,15 @@ fn row_line(text: &[u8], first: usize, rest: usize, count: usize, inputs: usize)
     ensures { (statement_meant result (words_at text.now rest) ≡ row_line inputs (name_at text.now first ∷ words_at text.now rest)) × Shaped result count }
 {
     if inputs == 0 {
-        return bare_row(text, first, rest, count);
+        bare_row(text, first, rest, count)
+    } else if count == 1
+        && is_cover(text, first, inputs)
+        && is_bit(text, after_blanks(text, rest))
+    {
+        Statement::Row
+    } else {
+        Statement::Outside
     }
-    if count != 1 {
-        return Statement::Outside;
-    }
-    if !is_cover(text, first, inputs) {
-        return Statement::Outside;
-    }
-    let second = after_blanks(text, rest);
-    if is_bit(text, second) {
-        return Statement::Row;
-    }
-    Statement::Outside
 }
 
 // A line that may stand from the head on, or else `other`.
@@ -167,15 +144,14 @@ fn body_line(text: &[u8], first: usize, rest: usize, count: usize, other: Statem
     ensures { (statement_meant result (words_at text.now rest) ≡ body_line (name_at text.now first) (words_at text.now rest) (statement_meant other (words_at text.now rest))) × Shaped result count }
 {
     if spells(text, first, b".names") {
-        return names_line(count);
+        names_line(count)
+    } else if spells(text, first, b".latch") {
+        latch_line(text, rest, count)
+    } else if spells(text, first, b".end") {
+        end_line(count)
+    } else {
+        other
     }
-    if spells(text, first, b".latch") {
-        return latch_line(text, rest, count);
-    }
-    if spells(text, first, b".end") {
-        return end_line(count);
-    }
-    other
 }
 
 // The first line.
@@ -184,9 +160,10 @@ fn first_line(text: &[u8], first: usize, rest: usize, count: usize) -> Statement
     ensures { (statement_meant result (words_at text.now rest) ≡ statement Subset.first (name_at text.now first ∷ words_at text.now rest)) × Shaped result count }
 {
     if spells(text, first, b".model") {
-        return model_line(count);
+        model_line(count)
+    } else {
+        Statement::Outside
     }
-    Statement::Outside
 }
 
 // A line of the head.
@@ -195,12 +172,12 @@ fn head_line(text: &[u8], first: usize, rest: usize, count: usize) -> Statement
     ensures { (statement_meant result (words_at text.now rest) ≡ statement head (name_at text.now first ∷ words_at text.now rest)) × Shaped result count }
 {
     if spells(text, first, b".inputs") {
-        return Statement::Inputs;
+        Statement::Inputs
+    } else if spells(text, first, b".outputs") {
+        Statement::Outputs
+    } else {
+        body_line(text, first, rest, count, Statement::Outside)
     }
-    if spells(text, first, b".outputs") {
-        return Statement::Outputs;
-    }
-    body_line(text, first, rest, count, Statement::Outside)
 }
 
 // What the line is whose first word begins at `first`, and whose `count` words after it stand from `rest` on.
@@ -226,14 +203,11 @@ pub fn stage_after(stage: Stage, statement: Statement, count: usize) -> Stage
     ensures { (ws : List Word) → length ws ≡ count → stage_meant result ≡ stage_after (stage_meant stage) (statement_meant statement ws) }
 {
     match statement {
-        Statement::Model => Stage::Head,
-        Statement::Inputs => Stage::Head,
-        Statement::Outputs => Stage::Head,
+        Statement::Model | Statement::Inputs | Statement::Outputs => Stage::Head,
         Statement::Names => Stage::Cover(count - 1),
-        Statement::Row => stage,
         Statement::Latch => Stage::Latched,
         Statement::End => Stage::Last,
-        Statement::Outside => stage,
+        Statement::Row | Statement::Outside => stage,
     }
 }
 
@@ -242,73 +216,34 @@ pub fn parts_of(statement: Statement, count: usize) -> Parts
     requires { Shaped statement count }
     ensures { (ws : List Word) → length ws ≡ count → PartsOf (statement_meant statement ws) ws result }
 {
-    let none = Parts {
-        reads: 0,
-        defines: 0,
-        names: 0,
+    let (reads, defines, names) = match statement {
+        Statement::Model => (0, 0, 1),
+        Statement::Inputs => (0, count, count),
+        Statement::Outputs => (0, 0, count),
+        Statement::Names => (count - 1, 1, count),
+        Statement::Latch => (1, 1, 2),
+        Statement::Row | Statement::End | Statement::Outside => (0, 0, 0),
     };
-    match statement {
-        Statement::Model => Parts {
-            reads: 0,
-            defines: 0,
-            names: 1,
-        },
-        Statement::Inputs => Parts {
-            reads: 0,
-            defines: count,
-            names: count,
-        },
-        Statement::Outputs => Parts {
-            reads: 0,
-            defines: 0,
-            names: count,
-        },
-        Statement::Names => Parts {
-            reads: count - 1,
-            defines: 1,
-            names: count,
-        },
-        Statement::Row => none,
-        Statement::Latch => Parts {
-            reads: 1,
-            defines: 1,
-            names: 2,
-        },
-        Statement::End => none,
-        Statement::Outside => none,
+    Parts {
+        reads,
+        defines,
+        names,
     }
 }
 
 // Whether a line is outside the subset.
-pub fn is_outside(statement: Statement, count: usize) -> bool
-    requires { Shaped statement count }
-    ensures { (ws : List Word) → length ws ≡ count → result ≡ is_outside (statement_meant statement ws) }
+pub fn is_outside(statement: Statement) -> bool
+    ensures { (ws : List Word) → Shaped statement (length ws) → result ≡ is_outside (statement_meant statement ws) }
 {
-    match statement {
-        Statement::Model => false,
-        Statement::Inputs => false,
-        Statement::Outputs => false,
-        Statement::Names => false,
-        Statement::Row => false,
-        Statement::Latch => false,
-        Statement::End => false,
-        Statement::Outside => true,
-    }
+    matches!(statement, Statement::Outside)
 }
 
 // Whether a line may stand after so many nodes: `.end` asks for one.
-pub fn some_nodes(statement: Statement, count: usize, nodes: usize) -> bool
-    requires { Shaped statement count }
-    ensures { (ws : List Word) → length ws ≡ count → result ≡ some_nodes nodes (statement_meant statement ws) }
+pub fn some_nodes(statement: Statement, nodes: usize) -> bool
+    ensures { (ws : List Word) → Shaped statement (length ws) → result ≡ some_nodes nodes (statement_meant statement ws) }
 {
     match statement {
-        Statement::Model => true,
-        Statement::Inputs => true,
-        Statement::Outputs => true,
-        Statement::Names => true,
-        Statement::Row => true,
-        Statement::Latch => true,
         Statement::End => 1 <= nodes,
-        Statement::Outside => true,
+        _ => true,
     }
 }

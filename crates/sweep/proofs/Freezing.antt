@@ -1,15 +1,14 @@
 -- Which differences are heeded after a freeze and a thaw: the lists of some nodes, whole.
-use Prim.Native.Nat.{ℕ, ◌+◌, ◌<◌}
-use mathlib.Core.Path.{◌≡◌, refl, sym, subst, ap, ◌∙◌}
+use Prim.Native.Nat.{ℕ, ◌<◌}
+use mathlib.Core.Path.{◌≡◌, refl, sym, subst, ◌∙◌}
 use mathlib.Core.Bool.{Bool, true, false, cond}
 use mathlib.Core.List.{List}
 use mathlib.Core.Logic.{inl, inr}
 use native.Mathlib.Omega.{arith}
 use lib.Dec.{eqb, ltb}
-use lib.ListN.{get_or, set, replicate, length-set, length-replicate}
-use lib.Seq.{get_or-set_same, get_or-set_other}
-use borrow.Author.Count.{below_none, below_more}
-use borrow.Author.Tests.{eq-eqb, ne_eqb, ltb-true, ltb-false}
+use lib.ListN.{get_or, replicate, length-replicate}
+use borrow.Author.Count.{below_none}
+use borrow.Author.Tests.{ltb-true, ltb-false}
 use Rattle.maps.proofs.Member.{zeros-at}
 use Rattle.bound.specs.Lookup.{Linked, Heeding}
 use Rattle.bound.proofs.Asking.{linked-heeding}
@@ -18,26 +17,6 @@ use Rattle.sweep.specs.Sweep.{SomeFails, Frozen, Thawed}
 module _ {first steps since : List ℕ} where
   pub frozen-none : Frozen first steps since (replicate 256 0) 0
   frozen-none = record { wide = length-replicate {A = ℕ} 256 0; heads = below_none _; rest = λ v h. zeros-at 256 v }
-
-  module _ {heeded : List ℕ} {v : ℕ} (low : v < 256) (f : Frozen first steps since heeded v) where
-    -- the step of v has moved, or not
-    pub frozen-moved : (get_or steps v 0 ≡ get_or since v 0 → ⊥) → Frozen first steps since (set heeded v (get_or first v 0)) (v + 1)
-    frozen-moved n =
-        record {
-          wide = length-set heeded v (get_or first v 0) ∙ f.wide;
-          heads = below_more _ v
-              (λ u h. get_or-set_other heeded v u (get_or first v 0) 0 (λ e. omega arith) ∙ f.heads u h)
-              (get_or-set_same heeded v (get_or first v 0) 0 (omega (arith, f.wide)) ∙ sym (ap (λ (t : Bool). cond t 0 (get_or first v 0)) (ne_eqb (get_or steps v 0) (get_or since v 0) n)));
-          rest = λ u h. get_or-set_other heeded v u (get_or first v 0) 0 (λ e. omega arith) ∙ f.rest u (omega arith);
-        }
-
-    pub frozen-still : get_or steps v 0 ≡ get_or since v 0 → Frozen first steps since heeded (v + 1)
-    frozen-still e =
-        record {
-          wide = f.wide;
-          heads = below_more _ v f.heads (f.rest v (omega arith) ∙ sym (ap (λ (t : Bool). cond t 0 (get_or first v 0)) (eq-eqb (get_or steps v 0) (get_or since v 0) e)));
-          rest = λ u h. f.rest u (omega arith);
-        }
 
   pub frozen-heeding : {differences heeded next : List ℕ} {m n : ℕ} → Linked differences m first next → Frozen first steps since heeded n → Heeding differences m heeded next
   frozen-heeding {heeded = heeded} {n = n} k f = record { heads = λ v l h. kept v h (ltb v n) refl ∙ k.heads v l; nexts = k.nexts }

@@ -1,184 +1,126 @@
 // What is done with the differences between two passes: which of them are heeded, whether these hold, and a sweep that raises nodes, ids falling, as
-// far as the differences into them alone ask. A list of differences by target (`first`, `next`) that is empty is one that is not heeded.
+// far as the differences into them alone ask. Differences whose list in the search is empty are not heeded.
 #![tactic(auto)]
 
-ghost use Rattle.std.specs.Prelude.{◌≡◌, ℕ, ◌<◌, ◌≤◌};
+ghost use Rattle.std.specs.Prelude.{◌≡◌, ℕ, ◌<◌, ◌≤◌, is_ok};
 ghost use Rattle.maps.specs.Sheet.{Sheet};
 ghost use Rattle.rows.specs.Cells.{Ends};
 ghost use Rattle.bound.specs.Bound.{Summed};
+ghost use Rattle.bound.specs.Sought.{of_search};
 ghost use Rattle.sweep.specs.Sweep.{Fails, AllHold, SomeFails, FailsBelow, Frozen, Thawed, Sweepable, PushEnds, SweepEnds};
 
-use bound::{Levels, Steps, after_differences, place_label, step_of};
-use rows::{Differences, Graph, Header, delay_in, difference_in};
+use bound::{Labels, Late, Search};
+use rows::{delay_in, difference_in};
 use types::Label;
 
 // Whether difference i is heeded and does not hold.
-pub fn fails(differences: &Differences, first: &[u32; 256], steps: &Steps, i: u32) -> bool
+pub fn fails(search: &Search, labels: &Labels, i: u32) -> bool
     requires i_bound { i < 1024 }
-    requires summed { Summed differences.now steps.now i }
-    ensures { Ends result (Fails differences.now first.now steps.now i) (Fails differences.now first.now steps.now i → ⊥) }
+    requires summed { Summed search.now.tables.now.differences labels.now.steps i }
+    ensures { Ends result (Fails search.now.tables.now.differences search.now.first.now labels.now.steps i) (Fails search.now.tables.now.differences search.now.first.now labels.now.steps i → ⊥) }
 {
-    let d = difference_in(differences, i);
-    let to = d.to;
-    if first[to as usize] == 0 {
+    let d = difference_in(&search.tables.differences, i);
+    if search.first[d.to as usize] == 0 {
         return false;
     }
-    let from = step_of(steps, d.from);
-    let own = step_of(steps, to);
-    let ahead = from.0 + d.plus;
-    let behind = own.0 + d.minus;
-    if ahead <= behind {
-        return false;
-    }
-    true
+    let ahead = labels.step_of(d.from).0 + d.plus;
+    let behind = labels.step_of(d.to).0 + d.minus;
+    ahead > behind
 }
 
 // Whether every heeded difference holds.
-pub fn differences_hold(
-    differences: &Differences,
-    first: &[u32; 256],
-    steps: &Steps,
-    m: u32,
-) -> bool
-    requires m_bound { m ≤ 1024 }
-    requires by_index { (i : ℕ) → i < m → Summed differences.now steps.now i }
-    ensures { Ends result (AllHold differences.now first.now steps.now m) (SomeFails differences.now first.now steps.now m) }
+pub fn differences_hold(search: &Search, labels: &Labels) -> bool
+    requires m_bound { search.now.limits.differences ≤ 1024 }
+    requires by_index { (i : ℕ) → i < search.now.limits.differences → Summed search.now.tables.now.differences labels.now.steps i }
+    ensures { Ends result (AllHold search.now.tables.now.differences search.now.first.now labels.now.steps search.now.limits.differences) (SomeFails search.now.tables.now.differences search.now.first.now labels.now.steps search.now.limits.differences) }
 {
-    let mut i: u32 = 0;
-    while i < m {
-        if fails(differences, first, steps, i) {
+    for i in 0..search.limits.differences {
+        if fails(search, labels, i) {
             return false;
         }
-        i += 1;
     }
     true
 }
 
 // Whether difference i leads from v to a lower node, is heeded and does not hold.
-pub fn fails_below(
-    differences: &Differences,
-    first: &[u32; 256],
-    steps: &Steps,
-    i: u32,
-    v: u32,
-) -> bool
+pub fn fails_below(search: &Search, labels: &Labels, i: u32, v: u32) -> bool
     requires i_bound { i < 1024 }
-    requires summed { Summed differences.now steps.now i }
-    ensures { Ends result (FailsBelow differences.now first.now steps.now v i) (FailsBelow differences.now first.now steps.now v i → ⊥) }
+    requires summed { Summed search.now.tables.now.differences labels.now.steps i }
+    ensures { Ends result (FailsBelow search.now.tables.now.differences search.now.first.now labels.now.steps v i) (FailsBelow search.now.tables.now.differences search.now.first.now labels.now.steps v i → ⊥) }
 {
-    let d = difference_in(differences, i);
-    if d.from != v {
-        return false;
-    }
-    if v <= d.to {
-        return false;
-    }
-    fails(differences, first, steps, i)
+    let d = difference_in(&search.tables.differences, i);
+    d.from == v && d.to < v && fails(search, labels, i)
 }
 
 // Whether a heeded difference from v to a lower node does not hold.
-pub fn some_fails_below(
-    differences: &Differences,
-    first: &[u32; 256],
-    steps: &Steps,
-    m: u32,
-    v: u32,
-) -> bool
-    requires m_bound { m ≤ 1024 }
-    requires by_index { (i : ℕ) → i < m → Summed differences.now steps.now i }
-    ensures { Ends result ((i : ℕ) × (i < m) × FailsBelow differences.now first.now steps.now v i) ((i : ℕ) → i < m → FailsBelow differences.now first.now steps.now v i → ⊥) }
+pub fn some_fails_below(search: &Search, labels: &Labels, v: u32) -> bool
+    requires m_bound { search.now.limits.differences ≤ 1024 }
+    requires by_index { (i : ℕ) → i < search.now.limits.differences → Summed search.now.tables.now.differences labels.now.steps i }
+    ensures { Ends result ((i : ℕ) × (i < search.now.limits.differences) × FailsBelow search.now.tables.now.differences search.now.first.now labels.now.steps v i) ((i : ℕ) → i < search.now.limits.differences → FailsBelow search.now.tables.now.differences search.now.first.now labels.now.steps v i → ⊥) }
 {
-    let mut i: u32 = 0;
-    while i < m {
-        if fails_below(differences, first, steps, i, v) {
+    for i in 0..search.limits.differences {
+        if fails_below(search, labels, i, v) {
             return true;
         }
-        i += 1;
     }
     false
 }
 
-// Heeds the differences into those of n nodes alone whose step has moved since the steps in `since` were noted, and notes the steps.
-pub fn freeze(first: &[u32; 256], steps: &Steps, since: &mut Steps, heeded: &mut [u32; 256], n: u32)
-    requires { n ≤ 256 }
-    ensures frozen { Frozen first.now steps.now since.old heeded.new n }
-    ensures since_after { since.new ≡ steps.now }
+// Heeds the differences into those nodes alone whose step has moved since the steps in `since` were noted, and notes the steps.
+pub fn freeze(search: &Search, labels: &Labels, since: &mut [u32; 256], heeded: &mut [u32; 256])
+    requires { search.now.limits.nodes ≤ 256 }
+    ensures frozen { Frozen search.now.first.now labels.now.steps since.old heeded.new search.now.limits.nodes }
+    ensures since_after { since.new ≡ labels.now.steps }
 {
     *heeded = [0; 256];
-    let mut v: u32 = 0;
-    while v < n {
-        let own = step_of(steps, v);
-        let old = step_of(since, v);
-        if own.0 != old.0 {
-            heeded[v as usize] = first[v as usize];
+    for v in 0..search.limits.nodes as usize {
+        if labels.steps[v] != since[v] {
+            heeded[v] = search.first[v];
         }
-        v += 1;
     }
-    *since = *steps;
+    *since = labels.steps;
 }
 
 // Heeds all differences again where those that are heeded hold.
-pub fn thaw(
-    differences: &Differences,
-    first: &[u32; 256],
-    steps: &Steps,
-    heeded: &mut [u32; 256],
-    m: u32,
-)
-    requires m_bound { m ≤ 1024 }
-    requires by_index { (i : ℕ) → i < m → Summed differences.now steps.now i }
-    ensures { Thawed differences.now first.now steps.now heeded.old heeded.new m }
+pub fn thaw(search: &Search, labels: &Labels, heeded: &mut [u32; 256])
+    requires m_bound { search.now.limits.differences ≤ 1024 }
+    requires by_index { (i : ℕ) → i < search.now.limits.differences → Summed search.now.tables.now.differences labels.now.steps i }
+    ensures { Thawed search.now.tables.now.differences search.now.first.now labels.now.steps heeded.old heeded.new search.now.limits.differences }
 {
-    if differences_hold(differences, heeded, steps, m) {
-        *heeded = *first;
+    let heeding = Search {
+        first: heeded,
+        ..*search
+    };
+    if differences_hold(&heeding, labels) {
+        *heeded = *search.first;
     }
 }
 
-// Raises v to its delay in the step that the heeded differences into it ask for, where that is later; false where it then ends after the horizon.
-pub fn push(
-    graph: &Graph,
-    differences: &Differences,
-    limits: Header,
-    first: &[u32; 256],
-    next: &[u32; 1024],
-    steps: &mut Steps,
-    levels: &mut Levels,
-    v: u32,
-) -> bool
-    requires by_index { (S : Sheet) × (bound : ℕ → ℕ) × Sweepable S bound graph.now differences.now limits first.now next.now steps.old levels.old }
-    requires v_lt_nodes { v < limits.nodes }
-    ensures { (S : Sheet) (bound : ℕ → ℕ) → Sweepable S bound graph.now differences.now limits first.now next.now steps.old levels.old → v < limits.nodes
-        → PushEnds S bound limits.horizon first.now steps.old levels.old steps.new levels.new v result }
+// Raises v to its delay in the step that the heeded differences into it ask for, where that is later, unless it then ends after the horizon.
+pub fn push(search: &Search, labels: &mut Labels, v: u32) -> Result<(), Late>
+    requires by_index { (S : Sheet) × (bound : ℕ → ℕ) × of_search (Sweepable S bound) search.now labels.old.steps labels.old.levels }
+    requires v_lt_nodes { v < search.now.limits.nodes }
+    ensures { (S : Sheet) (bound : ℕ → ℕ) → of_search (Sweepable S bound) search.now labels.old.steps labels.old.levels → v < search.now.limits.nodes
+        → PushEnds S bound search.now.limits.horizon search.now.first.now labels.old.steps labels.old.levels labels.new.steps labels.new.levels v (is_ok result) }
 {
-    let own = step_of(steps, v);
-    let asked = after_differences(differences, first, next, steps, limits.differences, v, own);
+    let own = labels.step_of(v);
+    let asked = search.after_differences(labels, v, own);
     if asked.0 <= own.0 {
-        return true;
+        return Ok(());
     }
+    let graph = &search.tables.graph;
     let label = Label::at(asked, delay_in(graph, v));
-    place_label(graph, steps, levels, v, label, limits.horizon)
+    labels.place_label(graph, v, label, search.limits.horizon)
 }
 
-// Pushes every node, ids falling; false where one ends after the horizon.
-pub fn sweep(
-    graph: &Graph,
-    differences: &Differences,
-    limits: Header,
-    first: &[u32; 256],
-    next: &[u32; 1024],
-    steps: &mut Steps,
-    levels: &mut Levels,
-) -> bool
-    requires { (S : Sheet) × (bound : ℕ → ℕ) × Sweepable S bound graph.now differences.now limits first.now next.now steps.old levels.old }
-    ensures { (S : Sheet) (bound : ℕ → ℕ) → Sweepable S bound graph.now differences.now limits first.now next.now steps.old levels.old
-        → SweepEnds S bound limits.horizon first.now steps.old levels.old steps.new levels.new result }
+// Pushes every node, ids falling, unless one ends after the horizon.
+pub fn sweep(search: &Search, labels: &mut Labels) -> Result<(), Late>
+    requires { (S : Sheet) × (bound : ℕ → ℕ) × of_search (Sweepable S bound) search.now labels.old.steps labels.old.levels }
+    ensures { (S : Sheet) (bound : ℕ → ℕ) → of_search (Sweepable S bound) search.now labels.old.steps labels.old.levels
+        → SweepEnds S bound search.now.limits.horizon search.now.first.now labels.old.steps labels.old.levels labels.new.steps labels.new.levels (is_ok result) }
 {
-    let mut v = limits.nodes;
-    while v > 0 {
-        v -= 1;
-        if !push(graph, differences, limits, first, next, steps, levels, v) {
-            return false;
-        }
+    for v in (0..search.limits.nodes).rev() {
+        push(search, labels, v)?;
     }
-    true
+    Ok(())
 }

@@ -17,7 +17,7 @@ use Rattle.maps.proofs.Over.{all-below, all-fails, get_d_over}
 use Rattle.maps.proofs.Member.{All-of, below_out}
 use Rattle.maps.proofs.Order.{ready-step}
 use Rattle.rows.specs.Table.{latency_in, Tabled}
-use Rattle.rows.proofs.Tables.{output-tabled}
+use Rattle.rows.proofs.SheetTables.{output-tabled}
 use Rattle.bound.specs.Lookup.{label_in, labels_in}
 use Rattle.timing.specs.Timing.{output_step}
 

@@ -1,13 +1,13 @@
 -- What the answer about a horizon means, and what a node adds to the latency.
-use Rattle.std.specs.Prelude.{ℕ, ◌+◌, ◌≤◌, ◌≡◌, true, false, cond, List, [], eqb, get_or}
+use Rattle.std.specs.Prelude.{ℕ, ◌+◌, ◌≤◌, ◌≡◌, true, false, cond, List, [], Result, Ok, Err, eqb, get_or}
 use Rattle.maps.specs.Limits.{ready_most}
 use Rattle.maps.specs.Label.{Label}
 use Rattle.maps.specs.Sheet.{Sheet}
 use Rattle.maps.specs.Least.{in_time, late, least, least_within, least_ever}
 use Rattle.rows.specs.Table.{mark_in, latency_in}
 use Rattle.rows.specs.declared.Header as R
-use Rattle.timing.specs.declared.Timing.{Timing}
-use Rattle.timing.specs.declared.Timing.TheVariants as Is
+use Rattle.types.specs.declared.Refusal.{Refusal}
+use Rattle.types.specs.declared.Refusal.TheVariants.{Late, Never}
 
 -- the same limits but for the horizon, which is the farthest
 pub record Far (limits far : R.Header) : Type 0 where
@@ -27,12 +27,12 @@ pub record Searched (limits within : R.Header) : Type 0 where
 
 -- Without entries: never, there are no least labels; late, L has them, and one is past H; in time, L has them, and none is. With entries: late, there are
 -- none within H; in time, L has them.
-pub data Times (S : Sheet) (H : ℕ) (L : List Label) : Timing → Type 0 where
-  is_never : S.windows ≡ [] → least_ever S ≡ late → Times S H L Is.Never
-  is-late : S.windows ≡ [] → least_ever S ≡ least L → in_time S L H ≡ false → Times S H L Is.Late
-  is-in-time : S.windows ≡ [] → least_ever S ≡ least L → in_time S L H ≡ true → Times S H L Is.InTime
-  is-past : (S.windows ≡ [] → ⊥) → least_within S H ≡ late → Times S H L Is.Late
-  is_within : (S.windows ≡ [] → ⊥) → least_within S H ≡ least L → Times S H L Is.InTime
+pub data Times (S : Sheet) (H : ℕ) (L : List Label) : Result (Unit {0}) Refusal → Type 0 where
+  is_never : S.windows ≡ [] → least_ever S ≡ late → Times S H L (Err (Never 0))
+  is-late : S.windows ≡ [] → least_ever S ≡ least L → in_time S L H ≡ false → Times S H L (Err (Late 0))
+  is-in-time : S.windows ≡ [] → least_ever S ≡ least L → in_time S L H ≡ true → Times S H L (Ok tt)
+  is-past : (S.windows ≡ [] → ⊥) → least_within S H ≡ late → Times S H L (Err (Late 0))
+  is_within : (S.windows ≡ [] → ⊥) → least_within S H ≡ least L → Times S H L (Ok tt)
 
 -- the ready step of u if it is an output, otherwise 0
 abbrev pub output_step : (graph steps : List ℕ) → ℕ → ℕ

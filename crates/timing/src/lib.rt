@@ -1,7 +1,7 @@
 // When the least labels are ready: the labels of any horizon against the sheet's own, and their latency.
 #![tactic(auto)]
 
-ghost use Rattle.std.specs.Prelude.{◌≡◌, true, List, [], ℕ, ◌<◌, ◌≤◌};
+ghost use Rattle.std.specs.Prelude.{◌≡◌, true, List, [], ℕ, ◌<◌, ◌≤◌, is_ok};
 ghost use Rattle.maps.specs.Sheet.{Sheet, size};
 ghost use Rattle.maps.specs.Legal.{plan_latency};
 ghost use Rattle.maps.specs.Least.{at, in_time, late, least, least_ever};
@@ -12,19 +12,11 @@ ghost use Rattle.bound.specs.Lookup.{labels_in, Soon};
 ghost use Rattle.bound.specs.Going.{Given, AllKept};
 ghost use Rattle.timing.specs.Timing.{Far, Searched, Times, output_step};
 
-use bound::{Levels, Steps, ready_step};
+use bound::{Labels, Late};
 use level::Cuts;
-use rows::{Differences, Graph, Header, output_in};
+use rows::{Graph, Header, Tables, output_in};
 use schedule::least_labels;
-use types::Step;
-
-// What the horizon comes to: nothing is legal under any, nothing within this one but within a larger one, or the least labels are in time.
-#[derive(Clone, Copy)]
-pub enum Timing {
-    Never,
-    Late,
-    InTime,
-}
+use types::{Refusal, Step};
 
 // No ready label of least labels is later, whatever the sheet: 255 differences of 65,535 one after the other, and a latency of 255.
 const FARTHEST: u32 = 16711680;
@@ -34,29 +26,21 @@ pub fn far_limits(limits: Header) -> Header
     ensures { Far limits result }
 {
     Header {
-        leaves: limits.leaves,
-        top: limits.top,
         horizon: FARTHEST,
-        nodes: limits.nodes,
-        differences: limits.differences,
-        period: limits.period,
-        windows: limits.windows,
+        ..limits
     }
 }
 
 // Whether the ready labels of n nodes are within the horizon.
-pub fn in_time(graph: &Graph, steps: &Steps, n: u32, horizon: u32) -> bool
+pub fn in_time(graph: &Graph, labels: &Labels, n: u32, horizon: u32) -> bool
     requires n_bound { n ≤ 256 }
-    requires by_index { (u : ℕ) → u < n → Soon graph.now steps.now u }
-    ensures { (S : Sheet) (levels : List ℕ) → Tabled S graph.now → n ≡ size S → in_time S (labels_in n steps.now levels) horizon ≡ result }
+    requires by_index { (u : ℕ) → u < n → Soon graph.now labels.now.steps u }
+    ensures { (S : Sheet) (levels : List ℕ) → Tabled S graph.now → n ≡ size S → in_time S (labels_in n labels.now.steps levels) horizon ≡ result }
 {
-    let mut v: u32 = 0;
-    while v < n {
-        let ready = ready_step(graph, steps, v);
-        if ready.0 > horizon {
+    for v in 0..n {
+        if labels.ready_step(graph, v).0 > horizon {
             return false;
         }
-        v += 1;
     }
     true
 }
@@ -66,77 +50,70 @@ pub fn search_limits(limits: Header) -> Header
     ensures { Searched limits result }
 {
     if limits.windows == 0 {
-        return far_limits(limits);
+        far_limits(limits)
+    } else {
+        limits
     }
-    limits
 }
 
-// What the least labels of any horizon come to, where they are found or there are none, for a sheet without entries.
-pub fn time_ever(graph: &Graph, steps: &Steps, limits: Header, found: bool) -> Timing
-    requires nodes_bound { limits.nodes ≤ 256 }
-    requires soon { found ≡ true → (u : ℕ) → u < limits.nodes → Soon graph.now steps.now u }
-    ensures { (S : Sheet) (levels : List ℕ) → Tabled S graph.now → limits.nodes ≡ size S → S.windows ≡ []
-        → Ends found (least_ever S ≡ least (labels_in limits.nodes steps.now levels)) (least_ever S ≡ late)
-        → Times S limits.horizon (labels_in limits.nodes steps.now levels) result }
-{
-    if !found {
-        return Timing::Never;
-    }
-    if !in_time(graph, steps, limits.nodes, limits.horizon) {
-        return Timing::Late;
-    }
-    Timing::InTime
-}
-
-// Writes the least legal labels, unless there are none: within the horizon of the limits where there are entries, otherwise of any horizon. `kept` has a
-// fitting cut of each logic node.
-pub fn time_labels(
+// Whether the least labels of any horizon, where they are found, are in time, for a sheet without entries; or which refusal it comes to.
+pub fn time_ever(
     graph: &Graph,
-    differences: &Differences,
+    labels: &Labels,
+    limits: Header,
+    found: Result<(), Late>,
+) -> Result<(), Refusal>
+    requires nodes_bound { limits.nodes ≤ 256 }
+    requires soon { is_ok found ≡ true → (u : ℕ) → u < limits.nodes → Soon graph.now labels.now.steps u }
+    ensures { (S : Sheet) (levels : List ℕ) → Tabled S graph.now → limits.nodes ≡ size S → S.windows ≡ []
+        → Ends (is_ok found) (least_ever S ≡ least (labels_in limits.nodes labels.now.steps levels)) (least_ever S ≡ late)
+        → Times S limits.horizon (labels_in limits.nodes labels.now.steps levels) result }
+{
+    found.map_err(|_| Refusal::Never(0))?;
+    if !in_time(graph, labels, limits.nodes, limits.horizon) {
+        return Err(Refusal::Late(0));
+    }
+    Ok(())
+}
+
+// Writes the least legal labels, which are in time, or says which refusal the sheet comes to: they are sought within the horizon of the limits where
+// there are entries, otherwise under any horizon. `kept` has a fitting cut of each logic node.
+pub fn time_labels(
+    tables: &Tables,
     limits: Header,
     kept: &mut Cuts,
-    steps: &mut Steps,
-    levels: &mut Levels,
-) -> Timing
-    requires { (S : Sheet) × Given S graph.now differences.now limits × AllKept S kept.old × (cutless S ≡ []) }
-    ensures { (S : Sheet) → Given S graph.now differences.now limits → AllKept S kept.old → cutless S ≡ []
-        → Times S limits.horizon (labels_in limits.nodes steps.new levels.new) result }
+    labels: &mut Labels,
+) -> Result<(), Refusal>
+    requires { (S : Sheet) × Given S tables.now.graph tables.now.differences limits × AllKept S kept.old × (cutless S ≡ []) }
+    ensures { (S : Sheet) → Given S tables.now.graph tables.now.differences limits → AllKept S kept.old → cutless S ≡ []
+        → Times S limits.horizon (labels_in limits.nodes labels.new.steps labels.new.levels) result }
 {
-    let within = search_limits(limits);
-    let found = least_labels(graph, differences, within, kept, steps, levels);
+    let found = least_labels(tables, search_limits(limits), kept, labels);
     if limits.windows == 0 {
-        return time_ever(graph, steps, limits, found);
+        return time_ever(&tables.graph, labels, limits, found);
     }
-    if found {
-        return Timing::InTime;
-    }
-    Timing::Late
+    found.map_err(|_| Refusal::Late(0))
 }
 
 // The ready step of u if it is an output, otherwise 0.
-fn output_step(graph: &Graph, steps: &Steps, u: u32) -> Step
+fn output_step(graph: &Graph, labels: &Labels, u: u32) -> Step
     requires u_bound { u < 256 }
-    requires soon { Soon graph.now steps.now u }
-    ensures { result.0 ≡ output_step graph.now steps.now u }
+    requires soon { Soon graph.now labels.now.steps u }
+    ensures { result.0 ≡ output_step graph.now labels.now.steps u }
 {
-    let ready = ready_step(graph, steps, u);
-    if output_in(graph, u) {
-        return ready;
-    }
-    Step(0)
+    let ready = labels.ready_step(graph, u);
+    if output_in(graph, u) { ready } else { Step(0) }
 }
 
 // The greatest ready step among the outputs of n nodes; 0 where none is an output.
-pub fn latency(graph: &Graph, steps: &Steps, n: u32) -> Step
+pub fn latency(graph: &Graph, labels: &Labels, n: u32) -> Step
     requires n_bound { n ≤ 256 }
-    requires by_index { (u : ℕ) → u < n → Soon graph.now steps.now u }
-    ensures { (S : Sheet) (levels : List ℕ) → Tabled S graph.now → n ≡ size S → result.0 ≡ plan_latency S (at (labels_in n steps.now levels)) }
+    requires by_index { (u : ℕ) → u < n → Soon graph.now labels.now.steps u }
+    ensures { (S : Sheet) (levels : List ℕ) → Tabled S graph.now → n ≡ size S → result.0 ≡ plan_latency S (at (labels_in n labels.now.steps levels)) }
 {
     let mut most = Step(0);
-    let mut u: u32 = 0;
-    while u < n {
-        most = most.later(output_step(graph, steps, u));
-        u += 1;
+    for u in 0..n {
+        most = most.later(output_step(graph, labels, u));
     }
     most
 }

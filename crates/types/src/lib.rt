@@ -7,15 +7,15 @@ ghost use Rattle.maps.specs.Window.{between, next_open};
 ghost use Rattle.types.specs.Code.{label_of, fitted, number_of, place_of};
 
 // A clock step.
-#[derive(Clone, Copy)]
+#[derive(Clone, Copy, Debug, PartialEq, Eq, PartialOrd, Ord)]
 pub struct Step(pub u32);
 
 // An arrival level inside a step.
-#[derive(Clone, Copy)]
+#[derive(Clone, Copy, Debug, PartialEq, Eq, PartialOrd, Ord)]
 pub struct Level(pub u32);
 
-// A label (s, l). Nothing but the functions of this type combines a step and a level.
-#[derive(Clone, Copy)]
+// A label (s, l): by step, and in one step by level. Nothing but the functions of this type combines a step and a level.
+#[derive(Clone, Copy, Debug, PartialEq, Eq, PartialOrd, Ord)]
 pub struct Label {
     pub step: Step,
     pub level: Level,
@@ -26,13 +26,7 @@ impl Step {
     pub fn after(self, n: Step) -> Step
         ensures { result.0 ≡ min (self.0 + n.0) 4294967295 }
     {
-        let s = self.0;
-        let by = n.0;
-        if by <= 4294967295 - s {
-            Step(s + by)
-        } else {
-            Step(4294967295)
-        }
+        Step(self.0.saturating_add(n.0))
     }
 
     // The next open step from this one on: its remainder by the period is at least `from` and below `to`.
@@ -41,28 +35,21 @@ impl Step {
         requires from_bound { self.0 + period + from ≤ 4294967295 }
         ensures { result.0 ≡ next_open period (between 0 from to) self.0 }
     {
-        let s = self.0;
-        let rest = s % period;
+        let rest = self.0 % period;
         if rest < from {
-            let wait = from - rest;
-            return Step(s + wait);
+            return Step(self.0 + (from - rest));
         }
         if rest < to {
             return self;
         }
-        let left = period - rest;
-        let cycle = s + left;
-        Step(cycle + from)
+        Step(self.0 + (period - rest) + from)
     }
 
     // The later of two steps.
     pub fn later(self, other: Step) -> Step
         ensures { result.0 ≡ max self.0 other.0 }
     {
-        if self.0 < other.0 {
-            return other;
-        }
-        self
+        self.max(other)
     }
 }
 
@@ -71,10 +58,7 @@ impl Level {
     pub fn higher(self, other: Level) -> Level
         ensures { result.0 ≡ max self.0 other.0 }
     {
-        if self.0 < other.0 {
-            return other;
-        }
-        self
+        self.max(other)
     }
 }
 
@@ -102,76 +86,48 @@ impl Label {
     pub fn at_most(self, other: Label) -> bool
         ensures { result ≡ leq (label_of self) (label_of other) }
     {
-        let a = self.step;
-        let b = other.step;
-        let k = self.level;
-        let l = other.level;
-        if a.0 < b.0 {
-            return true;
-        }
-        if b.0 < a.0 {
-            return false;
-        }
-        k.0 <= l.0
+        self <= other
     }
 
     // The later of two labels.
     pub fn later(self, other: Label) -> Label
         ensures { label_of result ≡ later (label_of self) (label_of other) }
     {
-        if self.at_most(other) {
-            return other;
-        }
-        self
+        other.max(self)
     }
 
     // The next step at level delay.
     pub fn next_step(self, delay: Level) -> Label
         ensures { label_of result ≡ fitted (next_step (label_of self) delay.0) }
     {
-        let step = self.step;
-        Label {
-            step: step.after(Step(1)),
-            level: delay,
-        }
+        Label::at(self.step.after(Step(1)), delay)
     }
 
     // self plus delay, where a step has the levels up to top.
     pub fn plus(self, delay: Level, top: Level) -> Label
         ensures { label_of result ≡ fitted (plus top.0 (label_of self) delay.0) }
     {
-        let from = self.level;
-        let step = self.step;
-        let l = from.0;
-        let d = delay.0;
-        let t = top.0;
-        if l as u64 + d as u64 <= t as u64 {
-            return Label {
-                step,
-                level: Level(l + d),
-            };
+        if u64::from(self.level.0) + u64::from(delay.0) <= u64::from(top.0) {
+            Label::at(self.step, Level(self.level.0 + delay.0))
+        } else {
+            self.next_step(delay)
         }
-        self.next_step(delay)
     }
 
     // The ready label of a node with the label self: level q of the step that many steps on, where it has a latency.
     pub fn ready(self, latency: Step, q: Level) -> Label
         ensures { label_of result ≡ fitted (ready latency.0 q.0 (label_of self)) }
     {
-        let lat = latency.0;
-        if lat == 0 {
-            return self;
-        }
-        let step = self.step;
-        Label {
-            step: step.after(latency),
-            level: q,
+        if latency.0 == 0 {
+            self
+        } else {
+            Label::at(self.step.after(latency), q)
         }
     }
 }
 
 // The kind of a node: only a box has a latency, and after it a clock-to-Q level.
-#[derive(Clone, Copy)]
+#[derive(Clone, Copy, Debug, PartialEq, Eq)]
 pub enum Kind {
     Input,
     Logic,
@@ -179,7 +135,7 @@ pub enum Kind {
 }
 
 // A node without its operands, which stand in a table beside it.
-#[derive(Clone, Copy)]
+#[derive(Clone, Copy, Debug, PartialEq, Eq)]
 pub struct Node {
     pub kind: Kind,
     pub output: bool,
@@ -188,7 +144,7 @@ pub struct Node {
 }
 
 // A ground for refusing, with its place.
-#[derive(Clone, Copy)]
+#[derive(Clone, Copy, Debug, PartialEq, Eq)]
 pub enum Refusal {
     // 1, the sheet ends before a number is complete or present
     Ended(usize),
@@ -242,18 +198,18 @@ impl Refusal {
         ensures { result ≡ place_of self }
     {
         match self {
-            Refusal::Ended(at) => at,
-            Refusal::Spelling(at) => at,
-            Refusal::Range(at) => at,
-            Refusal::Operand(at) => at,
-            Refusal::Trailing(at) => at,
-            Refusal::Cutless(at) => at,
-            Refusal::Late(at) => at,
-            Refusal::Room(at) => at,
-            Refusal::Subset(at) => at,
-            Refusal::Name(at) => at,
-            Refusal::Limit(at) => at,
-            Refusal::Never(at) => at,
+            Refusal::Ended(at)
+            | Refusal::Spelling(at)
+            | Refusal::Range(at)
+            | Refusal::Operand(at)
+            | Refusal::Trailing(at)
+            | Refusal::Cutless(at)
+            | Refusal::Late(at)
+            | Refusal::Room(at)
+            | Refusal::Subset(at)
+            | Refusal::Name(at)
+            | Refusal::Limit(at)
+            | Refusal::Never(at) => at,
         }
     }
 }

@@ -1,6 +1,7 @@
 -- The bytes from the tables are document 01's plan, where the tables hold its latency, labels, used nodes and chosen cuts.
 use Prim.Native.Nat.{ℕ, zero, suc, ◌<◌}
 use mathlib.Core.Path.{◌≡◌, refl, sym, ap, ◌∙◌}
+use mathlib.Core.Bool.{Bool, cond}
 use mathlib.Core.List.{List, [], ◌∷◌, ◌++◌, map, map-append}
 use native.Mathlib.Omega.{arith}
 use lib.ListN.{length}
@@ -30,12 +31,12 @@ row_bytes s l m k us = encoded s ++ encoded l ++ encoded m ++ encoded k ++ conca
 same_row : {s s' l l' m m' k k' : ℕ} {us us' : List ℕ} → s ≡ s' → l ≡ l' → m ≡ m' → k ≡ k' → us ≡ us' → row_bytes s l m k us ≡ row_bytes s' l' m' k' us'
 same_row a b c d e = rw (a, b, c, d, e)
 
-module _ (S : Sheet) (steps levels marks cuts : List ℕ) (covered : Covered S (labels_in (size S) steps levels) marks cuts) where
+module _ (S : Sheet) (steps levels : List ℕ) (marks : List Bool) (cuts : List ℕ) (covered : Covered S (labels_in (size S) steps levels) marks cuts) where
   row-bytes : (v : ℕ) → v < size S → flat_row steps levels marks cuts v ≡ row S (labels_in (size S) steps levels) (used S (labels_in (size S) steps levels)) v
   row-bytes v l =
       let e = sym (length_over (leaf_of cuts v) 0 (count_of cuts v)) in
       let label = sym (get_d_over (label_in steps levels) earliest (size S) v l) in
-      same_row (ap (λ (a : Label). a.step) label) (ap (λ (a : Label). a.level) label) (covered.marked v l) (e ∙ ap length (covered.rows v l)) (covered.rows v l)
+      same_row (ap (λ (a : Label). a.step) label) (ap (λ (a : Label). a.level) label) (ap (λ (b : Bool). cond {A = ℕ} b 1 0) (covered.marked v l)) (e ∙ ap length (covered.rows v l)) (covered.rows v l)
 
   pub plan-bytes : (latency : ℕ) → latency ≡ plan_latency S (at (labels_in (size S) steps levels))
       → flat_plan latency (size S) steps levels marks cuts ≡ plan S (labels_in (size S) steps levels)

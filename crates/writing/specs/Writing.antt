@@ -6,9 +6,8 @@ use Rattle.bound.specs.Lookup.{count_of}
 use Rattle.cover.specs.Cover.{row_of}
 
 -- each number of the row of v is one that a plan can have
-pub record Writable (steps levels marks cuts : List ℕ) (v : ℕ) : Type 0 where
+pub record Writable (steps levels cuts : List ℕ) (v : ℕ) : Type 0 where
   pub step : get_or steps v 0 ≤ horizon_range.high
   pub level : get_or levels v 0 ≤ top_range.high
-  pub bit : get_or marks v 0 ≤ 1
   pub few : count_of cuts v ≤ leaves_range.high
   pub ids : All (λ u. u < 256) (row_of cuts v)

@@ -14,6 +14,6 @@ returns c S C asked cone =
     let v = c.args.v in
     let q = c.requires in
     let walk = c.walk in
-    let e = walk.ensures.walk_counts S 256 asked refl in
+    let e = walk.ensures.walk_ends S 256 asked refl in
     e.2 ∙ ap length (walked_all S g marks v q.falling q.v_bound asked 256 e.0 _ walk.result e.1 (omega arith))
     ∙ looks-all S (marked marks) v (reads-fall S g marks v q.falling q.v_bound asked) C cone

@@ -1,39 +1,7 @@
--- `counting::cut_fits` meets its contract: the test as it stands in `cone::cut_fits`, and the operands after which the walk has ended.
-use native.Mathlib.Omega.{arith}
-use Prim.Native.Nat.{ℕ, ◌+◌, ◌-◌, ◌<◌}
-use mathlib.Core.Path.{◌≡◌, refl, sym, subst}
-use lib.ListN.{length}
-use Rattle.cone.specs.Walk.{marked, FitTest}
-use Rattle.cone.specs.Part.{leaves_below}
-use Rattle.cone.proofs.Cones.{leaves-met, fit-listed, fit_wide}
+-- `counting::cut_fits` meets its contract.
 use Rattle.counting.proofs.cut_fits.Goals as goal
 
-pub returns-then-count-k : goal.returns-then-count-k
-returns-then-count-k c S asked =
-    let g = c.args.graph.now in
-    let marks = c.args.marks.now in
-    let v = c.args.v in
-    let k = c.args.k in
-    let q = c.requires in
-    let walk = c.walk-spare in
-    let part = walk.new.part in
-    let e = walk.ensures.walk_counts S k asked refl in
-    let spares : 0 < walk.result = omega (arith, c.if-count-k.true) in
-    let count : k + 1 - walk.result ≡ length (leaves_below part v) =
-    omega (arith, leaves-met S g marks v q.falling q.v_bound asked k e.0 part walk.result e.1 spares) in (
-      fit-listed S g marks v q.falling q.v_bound asked k e.0 part walk.result e.1 spares _ c.leaves.new.cut count (c.leaves.ensures (sym count)),
-      record { operands = e.0; stops = e.1.stops; count = e.2 },
-    )
-
-pub returns-else-count-k : goal.returns-else-count-k
-returns-else-count-k c S asked =
-    let v = c.args.v in
-    let k = c.args.k in
-    let q = c.requires in
-    let walk = c.walk-spare in
-    let none : walk.result ≡ 0 = omega (arith, walk.ensures.upper_bound, c.if-count-k.false) in
-    let e = walk.ensures.walk_counts S k asked refl in (
-      subst (λ (r : ℕ). FitTest S (marked c.args.marks.now) v k r c.args.cut.now) (omega (arith, none))
-          (fit_wide S _ _ v q.falling q.v_bound asked k e.0 walk.new.part walk.result e.1 none c.args.cut.now),
-      record { operands = e.0; stops = e.1.stops; count = e.2 },
-    )
+pub returns-clause-fit_test : goal.returns-clause-fit_test
+returns-clause-fit_test c S asked =
+    let e = c.fits-leaves.ensures.fit_test S asked in
+    (e.0, record { operands = e.1.0; stops = e.1.1; count = e.1.2 })

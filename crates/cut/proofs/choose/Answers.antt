@@ -8,34 +8,28 @@ use Rattle.flow.proofs.Failed.{marks-size}
 use Rattle.cut.proofs.Bridge.{fewest-units, best-marks}
 use Rattle.cut.proofs.choose.Goals as goal
 
-pub returns-then-f-k : goal.returns-then-f-k
-returns-then-f-k c = λ S may asked.
-    let e = c.augment-f in
-    let t = c.if-f-k.true in
-    (λ le. absurd (omega arith), fewest-units asked c.requires.falling e.ensures)
-
-pub deepen-requires : goal.deepen-requires
-deepen-requires c =
-    let v = c.requires.v_bound.0 in
-    record { falling = c.requires.falling; flow = c.augment-f.ensures.value.flow; v_bound = omega arith }
+pub returns-in_err-augment-clause-chosen : goal.returns-in_err-augment-clause-chosen
+returns-in_err-augment-clause-chosen c = rw c.from_residual.ensures (λ S may asked. (tt, fewest-units asked c.requires.falling c.in_err-augment.ensures.augmented))
 
 pub collect-requires : goal.collect-requires
 collect-requires c =
-    let e = c.augment-f in
-    let d = c.deepen in
-    let final = d.ensures e.result (e.ensures.settled c.if-f-k.false) in
+    let e = c.in_ok-augment.ensures in
+    let final = c.deepen.ensures _ (e.augmented.settled e.most) in
     let n = marks-size c.requires.falling c.requires.v_bound.0 final.settled in
-    let le = c.if-f-k.false in
-    let k = c.requires.v_bound.1 in
-    omega arith
+    omega (arith, e.most)
 
-pub returns : goal.returns
-returns c = λ S may asked.
-    let e = c.augment-f in
-    let d = c.deepen in
-    let final = d.ensures e.result (e.ensures.settled c.if-f-k.false) in
+pub returns-clause-most : goal.returns-clause-most
+returns-clause-most c =
+    let e = c.in_ok-augment.ensures in
+    let final = c.deepen.ensures _ (e.augmented.settled e.most) in
     let n = marks-size c.requires.falling c.requires.v_bound.0 final.settled in
-    let g = c.collect in (
-      λ _. subst (λ (l : List ℕ). Best S may c.args.v l) (sym g.ensures.1) (best-marks asked c.requires.falling final),
-      subst (λ (r : ℕ). Fewest S may c.args.v c.args.k r) (sym (g.ensures.0 ∙ n)) (fewest-units asked c.requires.falling e.ensures),
+    omega (arith, e.most)
+
+pub returns-clause-chosen : goal.returns-clause-chosen
+returns-clause-chosen c = λ S may asked.
+    let e = c.in_ok-augment.ensures in
+    let final = c.deepen.ensures _ (e.augmented.settled e.most) in
+    let n = marks-size c.requires.falling c.requires.v_bound.0 final.settled in (
+      subst (λ (l : List ℕ). Best S may c.args.v l) (sym c.collect.ensures.1) (best-marks asked c.requires.falling final),
+      subst (λ (r : ℕ). Fewest S may c.args.v c.args.k r) (sym (c.collect.ensures.0 ∙ n)) (fewest-units asked c.requires.falling e.augmented),
     )

@@ -1,4 +1,4 @@
-use Prim.Native.Nat.{◌+◌, ◌-◌, ◌≤◌}
+use Prim.Native.Nat.{◌+◌}
 use mathlib.Core.Path.{◌≡◌}
 use mathlib.Core.List.{◌++◌, map}
 use lib.ListN.{length, take, drop}
@@ -9,9 +9,6 @@ use Rattle.definitions.proofs.append_reads.Given as goal
 
 abbrev pub invariant-loop-i : goal.invariant-loop-i
 invariant-loop-i l =
-    (l.i ≤ l.reads) × (words_at l.text l.at ≡ drop l.i (words_at l.text l.start))
+    (words_at l.text l.at ≡ drop l.i (words_at l.text l.start))
     × (take (l.used + l.i) l.operands ≡ take l.used l.initial.operands ++ map (id_of (names_in l.names l.count)) (take l.i (words_at l.text l.start)))
     × (length l.operands ≡ length l.initial.operands)
-
-abbrev pub decreases-loop-i : goal.decreases-loop-i
-decreases-loop-i l = l.reads - l.i

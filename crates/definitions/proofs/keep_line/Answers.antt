@@ -1,7 +1,7 @@
 -- `definitions::keep_line` meets its contract, statement by statement.
 use Prim.Native.Nat.{ℕ, suc, ◌-◌, ◌≤◌}
 use mathlib.Core.Path.{◌≡◌, refl, sym, subst, ap, ◌∙◌}
-use mathlib.Core.List.{List, [], ◌∷◌, ◌++◌, append-nil}
+use mathlib.Core.List.{List, [], ◌∷◌, ◌++◌}
 use native.Mathlib.Omega.{arith}
 use lib.ListN.{length, get_or, take}
 use lib.Seq.{length-take-le}
@@ -28,22 +28,10 @@ shape n e h = subst (λ (s : Code.Statement). Shaped s n) e h
 adds : {a b : Code.Statement} (ds : List Definition) (ws : List Word) {xs : List Definition} → a ≡ b → defined (statement_meant b ws) ≡ xs → ds ++ xs ≡ ds ++ defined (statement_meant a ws)
 adds ds ws e f = ap (λ (xs : List Definition). ds ++ xs) (sym f ∙ ap (λ (s : Code.Statement). defined (statement_meant s ws)) (sym e))
 
--- a statement that defines nothing
-none : {a b : Code.Statement} (ds : List Definition) (ws : List Word) → a ≡ b → defined (statement_meant b ws) ≡ [] → ds ≡ ds ++ defined (statement_meant a ws)
-none ds ws e f = sym (append-nil ds) ∙ adds ds ws e f
-
 pub keep_inputs-requires : goal.keep_inputs-requires
 keep_inputs-requires c =
     let ws = words_at c.args.text.now c.args.rest in
     let h : Lawful c.requires.kept.0 (inputs ws) = known ws c.in-Inputs.is c.requires.kept.2 in record { k_in_bounds = (omega (arith, c.requires.count_value.0), inputs_short c.requires.kept.0 ws c.args.count c.requires.count_value.0 h, omega (arith, c.requires.count_value.0, inputs-room c.requires.kept.0 ws h, kept-size c.requires.kept.1)); kept = (c.requires.kept.0, c.requires.kept.1, inputs-new c.requires.kept.0 ws c.args.count c.requires.count_value.0 h) }
-
-pub overflow_sub-count : goal.overflow_sub-count
-overflow_sub-count c =
-    shape c.args.count c.in-Names.is c.requires.count_value.1
-
-pub overflow_sub-count-in-Names : goal.overflow_sub-count-in-Names
-overflow_sub-count-in-Names c =
-    shape c.args.count c.in-Names.is c.requires.count_value.1
 
 pub keep_one-requires : goal.keep_one-requires
 keep_one-requires c =
@@ -90,18 +78,3 @@ returns-in-Latch c =
     λ ds q h.
     let o = lawful-one ds (latch (get_or ws 0 []) (get_or ws 1 [])) (definition (get_or ws 1 []) (box 1 0) (take 1 ws)) (latch-defined ws n) (known ws t h) in
     kept_same (adds ds ws t (latch-defined ws n)) (c.keep_one-in-Latch.ensures ds q o.reads o.new)
-
-pub returns-in-Model : goal.returns-in-Model
-returns-in-Model c = λ ds q h. kept_same (none ds _ c.in-Model.is refl) q
-
-pub returns-in-Outputs : goal.returns-in-Outputs
-returns-in-Outputs c = λ ds q h. kept_same (none ds _ c.in-Outputs.is refl) q
-
-pub returns-in-Row : goal.returns-in-Row
-returns-in-Row c = λ ds q h. kept_same (none ds _ c.in-Row.is refl) q
-
-pub returns-in-End : goal.returns-in-End
-returns-in-End c = λ ds q h. kept_same (none ds _ c.in-End.is refl) q
-
-pub returns-in-Outside : goal.returns-in-Outside
-returns-in-Outside c = λ ds q h. kept_same (none ds _ c.in-Outside.is refl) q

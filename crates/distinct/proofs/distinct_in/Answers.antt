@@ -9,4 +9,4 @@ use Rattle.distinct.proofs.distinct_in.Goals as goal
 pub returns : goal.returns
 returns c =
     let t = c.args.text.now in
-    sorted-fresh (names t c.collect.new.words) (names t c.sort.new.words) c.sort.result c.sort.ensures.2 ∙ ap (fresh []) c.collect.ensures
+    c.is_ok.ensures.value ∙ sorted-fresh (names t c.collect.new.words) (names t c.sort.new.words) c.sort.result c.sort.ensures.2 ∙ ap (fresh []) c.collect.ensures

@@ -8,107 +8,107 @@ use Rattle.ranges.proofs.RangeLaws.{delays-right, latencies-right, clocks-right,
 use Rattle.maps.proofs.Spellable.{ranges-fit}
 use Rattle.maps.proofs.WrittenSize.{ranges-bytes}
 use Rattle.records.specs.declared.NodeRow.{NodeRow}
-use Rattle.fields.proofs.WroteLaws.{begun, more, stopped, last_one, room-left}
+use Rattle.fields.proofs.WroteLaws.{more, stopped, room-left}
 use Rattle.entries.proofs.put_head.Goals as goal
 
 -- the numbers after the first k
 abbrev after : (k : ℕ) → NodeRow → (top count : ℕ) → List Entry
 after k row top count = drop k (head_entries top row.kind row.output row.delay row.latency row.clock count)
 
-pub returns-in_default : goal.returns-in_default
-returns-in_default c =
-    stopped (after 1 c.args.row c.args.top c.args.count) c.in_default.is c.put_field-kind_put.ensures
+pub returns-in_err-put_field : goal.returns-in_err-put_field
+returns-in_err-put_field c =
+    stopped (after 1 c.args.row c.args.top c.args.count) c.from_residual.ensures.1 c.in_err-put_field.ensures
 
-pub put_field-mark_put-requires : goal.put_field-mark_put-requires
-put_field-mark_put-requires c =
-    let w1 = begun c.in-Next.is c.put_field-kind_put.ensures in
+pub put_field-requires-2 : goal.put_field-requires-2
+put_field-requires-2 c =
+    let w1 = c.in_ok-put_field.ensures in
     room-left w1 (omega arith) c.requires.1
 
-pub returns-in_default-mark_put : goal.returns-in_default-mark_put
-returns-in_default-mark_put c =
-    let w1 = begun c.in-Next.is c.put_field-kind_put.ensures in
-    last_one w1 (stopped (after 2 c.args.row c.args.top c.args.count) c.in_default-mark_put.is c.put_field-mark_put.ensures)
-
-pub put_in-delay_put-requires : goal.put_in-delay_put-requires
-put_in-delay_put-requires c =
-    let all = c.ranges_of-all in
-    let d = delays-right c.args.top c.args.row.kind all.result c.requires.0 all.ensures _ c.up_to.ensures in
-    let small = ranges-fit c.args.top c.args.row.kind c.args.row.latency c.requires.0 in
-    let most = ranges-bytes c.args.top c.args.row.kind c.args.row.latency c.requires.0 in
-    let w1 = begun c.in-Next.is c.put_field-kind_put.ensures in
-    let w2 = more w1 c.in-Next-mark_put.is c.put_field-mark_put.ensures in
-    (omega (arith, d.1, small.0), rw d.1 (room-left w2 (omega (arith, most)) c.requires.1))
-
-pub returns-in_default-delay_put : goal.returns-in_default-delay_put
-returns-in_default-delay_put c =
-    let all = c.ranges_of-all in
-    let d = delays-right c.args.top c.args.row.kind all.result c.requires.0 all.ensures _ c.up_to.ensures in
-    let w1 = begun c.in-Next.is c.put_field-kind_put.ensures in
-    let w2 = more w1 c.in-Next-mark_put.is c.put_field-mark_put.ensures in
-    last_one w2 (stopped (after 3 c.args.row c.args.top c.args.count) c.in_default-delay_put.is (rw (d.0, d.1) at c.put_in-delay_put.ensures))
-
-pub put_in-latency_put-requires : goal.put_in-latency_put-requires
-put_in-latency_put-requires c =
-    let all = c.ranges_of-all in
-    let d = delays-right c.args.top c.args.row.kind all.result c.requires.0 all.ensures _ c.up_to.ensures in
-    let l = latencies-right c.args.top c.args.row.kind all.result c.requires.0 all.ensures in
-    let small = ranges-fit c.args.top c.args.row.kind c.args.row.latency c.requires.0 in
-    let most = ranges-bytes c.args.top c.args.row.kind c.args.row.latency c.requires.0 in
-    let w1 = begun c.in-Next.is c.put_field-kind_put.ensures in
-    let w2 = more w1 c.in-Next-mark_put.is c.put_field-mark_put.ensures in
-    let w3 = more w2 c.in-Next-delay_put.is (rw (d.0, d.1) at c.put_in-delay_put.ensures) in
-    (omega (arith, l.1, small.1), rw l.1 (room-left w3 (omega (arith, most)) c.requires.1))
-
-pub returns-in_default-latency_put : goal.returns-in_default-latency_put
-returns-in_default-latency_put c =
-    let all = c.ranges_of-all in
-    let d = delays-right c.args.top c.args.row.kind all.result c.requires.0 all.ensures _ c.up_to.ensures in
-    let l = latencies-right c.args.top c.args.row.kind all.result c.requires.0 all.ensures in
-    let w1 = begun c.in-Next.is c.put_field-kind_put.ensures in
-    let w2 = more w1 c.in-Next-mark_put.is c.put_field-mark_put.ensures in
-    let w3 = more w2 c.in-Next-delay_put.is (rw (d.0, d.1) at c.put_in-delay_put.ensures) in
-    last_one w3 (stopped (after 4 c.args.row c.args.top c.args.count) c.in_default-latency_put.is (rw (l.0, l.1) at c.put_in-latency_put.ensures))
-
-pub put_in-clock_put-requires : goal.put_in-clock_put-requires
-put_in-clock_put-requires c =
-    let all = c.ranges_of-all in
-    let d = delays-right c.args.top c.args.row.kind all.result c.requires.0 all.ensures _ c.up_to.ensures in
-    let l = latencies-right c.args.top c.args.row.kind all.result c.requires.0 all.ensures in
-    let q = clocks-right c.args.top c.args.row.kind all.result c.requires.0 all.ensures c.args.row.latency _ c.clock_to_q-clocks.ensures in
-    let small = ranges-fit c.args.top c.args.row.kind c.args.row.latency c.requires.0 in
-    let most = ranges-bytes c.args.top c.args.row.kind c.args.row.latency c.requires.0 in
-    let w1 = begun c.in-Next.is c.put_field-kind_put.ensures in
-    let w2 = more w1 c.in-Next-mark_put.is c.put_field-mark_put.ensures in
-    let w3 = more w2 c.in-Next-delay_put.is (rw (d.0, d.1) at c.put_in-delay_put.ensures) in
-    let w4 = more w3 c.in-Next-latency_put.is (rw (l.0, l.1) at c.put_in-latency_put.ensures) in
-    (omega (arith, q.1, small.2), rw q.1 (room-left w4 (omega (arith, most)) c.requires.1))
-
-pub returns-in_default-clock_put : goal.returns-in_default-clock_put
-returns-in_default-clock_put c =
-    let all = c.ranges_of-all in
-    let d = delays-right c.args.top c.args.row.kind all.result c.requires.0 all.ensures _ c.up_to.ensures in
-    let l = latencies-right c.args.top c.args.row.kind all.result c.requires.0 all.ensures in
-    let q = clocks-right c.args.top c.args.row.kind all.result c.requires.0 all.ensures c.args.row.latency _ c.clock_to_q-clocks.ensures in
-    let w1 = begun c.in-Next.is c.put_field-kind_put.ensures in
-    let w2 = more w1 c.in-Next-mark_put.is c.put_field-mark_put.ensures in
-    let w3 = more w2 c.in-Next-delay_put.is (rw (d.0, d.1) at c.put_in-delay_put.ensures) in
-    let w4 = more w3 c.in-Next-latency_put.is (rw (l.0, l.1) at c.put_in-latency_put.ensures) in
-    last_one w4 (stopped (after 5 c.args.row c.args.top c.args.count) c.in_default-clock_put.is (rw (q.0, q.1) at c.put_in-clock_put.ensures))
+pub returns-in_err-put_field-2 : goal.returns-in_err-put_field-2
+returns-in_err-put_field-2 c =
+    let w1 = c.in_ok-put_field.ensures in
+    more w1 (stopped (after 2 c.args.row c.args.top c.args.count) c.from_residual-in_err-put_field-2.ensures.1 c.in_err-put_field-2.ensures)
 
 pub put_in-requires : goal.put_in-requires
 put_in-requires c =
     let all = c.ranges_of-all in
     let d = delays-right c.args.top c.args.row.kind all.result c.requires.0 all.ensures _ c.up_to.ensures in
+    let small = ranges-fit c.args.top c.args.row.kind c.args.row.latency c.requires.0 in
+    let most = ranges-bytes c.args.top c.args.row.kind c.args.row.latency c.requires.0 in
+    let w1 = c.in_ok-put_field.ensures in
+    let w2 = more w1 c.in_ok-put_field-2.ensures in
+    (omega (arith, d.1, small.0), rw d.1 (room-left w2 (omega (arith, most)) c.requires.1))
+
+pub returns-in_err-put_in : goal.returns-in_err-put_in
+returns-in_err-put_in c =
+    let all = c.ranges_of-all in
+    let d = delays-right c.args.top c.args.row.kind all.result c.requires.0 all.ensures _ c.up_to.ensures in
+    let w1 = c.in_ok-put_field.ensures in
+    let w2 = more w1 c.in_ok-put_field-2.ensures in
+    more w2 (stopped (after 3 c.args.row c.args.top c.args.count) c.from_residual-in_err-put_in.ensures.1 (rw (d.0, d.1) at c.in_err-put_in.ensures))
+
+pub put_in-requires-2 : goal.put_in-requires-2
+put_in-requires-2 c =
+    let all = c.ranges_of-all in
+    let d = delays-right c.args.top c.args.row.kind all.result c.requires.0 all.ensures _ c.up_to.ensures in
     let l = latencies-right c.args.top c.args.row.kind all.result c.requires.0 all.ensures in
-    let q = clocks-right c.args.top c.args.row.kind all.result c.requires.0 all.ensures c.args.row.latency _ c.clock_to_q-clocks.ensures in
+    let small = ranges-fit c.args.top c.args.row.kind c.args.row.latency c.requires.0 in
+    let most = ranges-bytes c.args.top c.args.row.kind c.args.row.latency c.requires.0 in
+    let w1 = c.in_ok-put_field.ensures in
+    let w2 = more w1 c.in_ok-put_field-2.ensures in
+    let w3 = more w2 (rw (d.0, d.1) at c.in_ok-put_in.ensures) in
+    (omega (arith, l.1, small.1), rw l.1 (room-left w3 (omega (arith, most)) c.requires.1))
+
+pub returns-in_err-put_in-2 : goal.returns-in_err-put_in-2
+returns-in_err-put_in-2 c =
+    let all = c.ranges_of-all in
+    let d = delays-right c.args.top c.args.row.kind all.result c.requires.0 all.ensures _ c.up_to.ensures in
+    let l = latencies-right c.args.top c.args.row.kind all.result c.requires.0 all.ensures in
+    let w1 = c.in_ok-put_field.ensures in
+    let w2 = more w1 c.in_ok-put_field-2.ensures in
+    let w3 = more w2 (rw (d.0, d.1) at c.in_ok-put_in.ensures) in
+    more w3 (stopped (after 4 c.args.row c.args.top c.args.count) c.from_residual-in_err-put_in-2.ensures.1 (rw (l.0, l.1) at c.in_err-put_in-2.ensures))
+
+pub put_in-requires-3 : goal.put_in-requires-3
+put_in-requires-3 c =
+    let all = c.ranges_of-all in
+    let d = delays-right c.args.top c.args.row.kind all.result c.requires.0 all.ensures _ c.up_to.ensures in
+    let l = latencies-right c.args.top c.args.row.kind all.result c.requires.0 all.ensures in
+    let q = clocks-right c.args.top c.args.row.kind all.result c.requires.0 all.ensures c.args.row.latency _ c.clock_to_q.ensures in
+    let small = ranges-fit c.args.top c.args.row.kind c.args.row.latency c.requires.0 in
+    let most = ranges-bytes c.args.top c.args.row.kind c.args.row.latency c.requires.0 in
+    let w1 = c.in_ok-put_field.ensures in
+    let w2 = more w1 c.in_ok-put_field-2.ensures in
+    let w3 = more w2 (rw (d.0, d.1) at c.in_ok-put_in.ensures) in
+    let w4 = more w3 (rw (l.0, l.1) at c.in_ok-put_in-2.ensures) in
+    (omega (arith, q.1, small.2), rw q.1 (room-left w4 (omega (arith, most)) c.requires.1))
+
+pub returns-in_err-put_in-3 : goal.returns-in_err-put_in-3
+returns-in_err-put_in-3 c =
+    let all = c.ranges_of-all in
+    let d = delays-right c.args.top c.args.row.kind all.result c.requires.0 all.ensures _ c.up_to.ensures in
+    let l = latencies-right c.args.top c.args.row.kind all.result c.requires.0 all.ensures in
+    let q = clocks-right c.args.top c.args.row.kind all.result c.requires.0 all.ensures c.args.row.latency _ c.clock_to_q.ensures in
+    let w1 = c.in_ok-put_field.ensures in
+    let w2 = more w1 c.in_ok-put_field-2.ensures in
+    let w3 = more w2 (rw (d.0, d.1) at c.in_ok-put_in.ensures) in
+    let w4 = more w3 (rw (l.0, l.1) at c.in_ok-put_in-2.ensures) in
+    more w4 (stopped (after 5 c.args.row c.args.top c.args.count) c.from_residual-in_err-put_in-3.ensures.1 (rw (q.0, q.1) at c.in_err-put_in-3.ensures))
+
+pub put_in-requires-4 : goal.put_in-requires-4
+put_in-requires-4 c =
+    let all = c.ranges_of-all in
+    let d = delays-right c.args.top c.args.row.kind all.result c.requires.0 all.ensures _ c.up_to.ensures in
+    let l = latencies-right c.args.top c.args.row.kind all.result c.requires.0 all.ensures in
+    let q = clocks-right c.args.top c.args.row.kind all.result c.requires.0 all.ensures c.args.row.latency _ c.clock_to_q.ensures in
     let o = operands-right c.args.top c.args.row.kind all.result c.requires.0 all.ensures in
     let small = ranges-fit c.args.top c.args.row.kind c.args.row.latency c.requires.0 in
     let most = ranges-bytes c.args.top c.args.row.kind c.args.row.latency c.requires.0 in
-    let w1 = begun c.in-Next.is c.put_field-kind_put.ensures in
-    let w2 = more w1 c.in-Next-mark_put.is c.put_field-mark_put.ensures in
-    let w3 = more w2 c.in-Next-delay_put.is (rw (d.0, d.1) at c.put_in-delay_put.ensures) in
-    let w4 = more w3 c.in-Next-latency_put.is (rw (l.0, l.1) at c.put_in-latency_put.ensures) in
-    let w5 = more w4 c.in-Next-clock_put.is (rw (q.0, q.1) at c.put_in-clock_put.ensures) in
+    let w1 = c.in_ok-put_field.ensures in
+    let w2 = more w1 c.in_ok-put_field-2.ensures in
+    let w3 = more w2 (rw (d.0, d.1) at c.in_ok-put_in.ensures) in
+    let w4 = more w3 (rw (l.0, l.1) at c.in_ok-put_in-2.ensures) in
+    let w5 = more w4 (rw (q.0, q.1) at c.in_ok-put_in-3.ensures) in
     (omega (arith, o.1, small.3), rw o.1 (room-left w5 (omega (arith, most)) c.requires.1))
 
 pub returns : goal.returns
@@ -116,11 +116,11 @@ returns c =
     let all = c.ranges_of-all in
     let d = delays-right c.args.top c.args.row.kind all.result c.requires.0 all.ensures _ c.up_to.ensures in
     let l = latencies-right c.args.top c.args.row.kind all.result c.requires.0 all.ensures in
-    let q = clocks-right c.args.top c.args.row.kind all.result c.requires.0 all.ensures c.args.row.latency _ c.clock_to_q-clocks.ensures in
+    let q = clocks-right c.args.top c.args.row.kind all.result c.requires.0 all.ensures c.args.row.latency _ c.clock_to_q.ensures in
     let o = operands-right c.args.top c.args.row.kind all.result c.requires.0 all.ensures in
-    let w1 = begun c.in-Next.is c.put_field-kind_put.ensures in
-    let w2 = more w1 c.in-Next-mark_put.is c.put_field-mark_put.ensures in
-    let w3 = more w2 c.in-Next-delay_put.is (rw (d.0, d.1) at c.put_in-delay_put.ensures) in
-    let w4 = more w3 c.in-Next-latency_put.is (rw (l.0, l.1) at c.put_in-latency_put.ensures) in
-    let w5 = more w4 c.in-Next-clock_put.is (rw (q.0, q.1) at c.put_in-clock_put.ensures) in
-    last_one w5 (rw (o.0, o.1) at c.put_in.ensures)
+    let w1 = c.in_ok-put_field.ensures in
+    let w2 = more w1 c.in_ok-put_field-2.ensures in
+    let w3 = more w2 (rw (d.0, d.1) at c.in_ok-put_in.ensures) in
+    let w4 = more w3 (rw (l.0, l.1) at c.in_ok-put_in-2.ensures) in
+    let w5 = more w4 (rw (q.0, q.1) at c.in_ok-put_in-3.ensures) in
+    more w5 (rw (o.0, o.1) at c.put_in-4.ensures)

@@ -1,5 +1,6 @@
 -- `enter`, `expand` and `scan`, which call each other, meet their contracts.
 use Rattle.std.proofs.Common.{arith, ◌∙◌, inl, inr, refl, sym, subst, ℕ, ◌+◌, ◌<◌, List, length}
+use borrow.Author.Count.{below_none}
 use Rattle.std.proofs.Math.ListN.{length-set}
 use Rattle.rows.specs.Cells.{cell}
 use Rattle.rows.specs.Table.{count_in}
@@ -154,50 +155,53 @@ expand-returns t c =
 
 -- ---- scan
 
+pub scan-loop-j-init : goal.scan-loop-j-init
+scan-loop-j-init t c = let a = c.args in record { block = Laws.block_none a.graph.now a.code.now a.seen.now a.above.now; entered = below_none _ }
+
 pub scan-enter-requires : goal.scan-enter-requires
 scan-enter-requires t c =
     let a = c.args in
     let s = c.requires.startable in
-    let few = s.falling.few a.p s.node in
-    let here : a.j < count_in a.graph.now a.p = omega (arith, c.if-count_in-j.false, c.count_in.ensures) in
-    let fall = s.falling.falls a.p a.j s.node here in
-    let y = c.operand_in-y.ensures in
-    let link = Laws.link-operand a.graph.now a.code.now a.from a.p a.j c.requires.under here in
+    let j = c.loop-j.j in
+    let block = c.loop-j.invariant.block in
+    let here : j < count_in a.graph.now a.p = omega (arith, c.count_in-j-end.ensures) in
+    let fall = s.falling.falls a.p j s.node here in
+    let y = c.operand_in.ensures in
+    let link = Laws.link-operand a.graph.now a.code.now a.from a.p j c.requires.under here in
+    let fewer = block.fewer in
     let n = s.node in
     let l = s.below in (
       omega arith,
       (
-        record { falling = s.falling; marks = s.marks; flow = s.flow; node = omega arith; source = s.source; below = omega arith },
+        record {
+          falling = s.falling;
+          marks = block.long ∙ s.marks;
+          flow = subst (λ (l : List ℕ). Flow a.graph.now a.code.now l) (sym block.same) s.flow;
+          node = omega arith;
+          source = s.source;
+          below = omega arith;
+        },
         subst (λ (x : ℕ). Link a.graph.now a.code.now a.from x) (sym y) link,
       ),
     )
 
-pub scan-scan-requires : goal.scan-scan-requires
-scan-scan-requires t c =
+pub scan-returns-then-enter : goal.scan-returns-then-enter
+scan-returns-then-enter t c =
     let a = c.args in
-    let s = c.requires.startable in
-    let few = s.falling.few a.p s.node in
+    let l = c.loop-j in
+    Laws.push-after a.graph.now a.code.now a.seen.now l.seen a.above.now l.above c.enter.new.above l.invariant.block a.from c.if-enter.ensures
+
+pub scan-loop-j-preserved : goal.scan-loop-j-preserved
+scan-loop-j-preserved t c =
+    let a = c.args in
+    let l = c.loop-j in
+    let e = c.enter in
     let f = c.if-enter.ensures in
-    let w = f.0.fewer in (
-      omega arith,
-      (
-        record {
-          falling = s.falling;
-          marks = f.0.long ∙ s.marks;
-          flow = subst (λ (l : List ℕ). Flow a.graph.now a.code.now l) (sym f.0.same) s.flow;
-          node = s.node;
-          source = s.source;
-          below = s.below;
-        },
-        c.requires.under,
-      ),
-    )
+    let more = Laws.scan-more a.graph.now a.code.now a.seen.now l.seen e.new.seen a.above.now l.above e.new.above a.p l.j l.invariant.block l.invariant.entered f.0
+    (subst (λ (x : ℕ). Entered a.code.now e.new.seen x) c.operand_in.ensures f.1) in
+    record { block = more.0; entered = more.1 }
 
 pub scan-returns : goal.scan-returns
 scan-returns t c =
-    let a = c.args in
-    let e = c.enter in
-    let f = c.if-enter.ensures in
-    let g = c.scan in
-    Laws.scan-more a.graph.now a.code.now a.seen.now e.new.seen g.new.seen a.above.now e.new.above g.new.above a.p a.j a.from g.result f.0
-    (subst (λ (x : ℕ). Entered a.code.now e.new.seen x) c.operand_in-y.ensures f.1) g.ensures
+    let l = c.loop-j in
+    (l.invariant.block, λ i lt. l.invariant.entered i (omega (arith, c.count_in-j-end.ensures, c.loop-j-test.false)))

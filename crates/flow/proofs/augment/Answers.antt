@@ -1,42 +1,36 @@
--- `augment` meets its contract. The invariant: the flow has the value `got`.
-use Rattle.std.proofs.Common.{arith, refl, inl}
+-- `augment` meets its contract. The invariant: the flow has the value `units`.
+use Rattle.std.proofs.Common.{◌≡◌, ℕ, ◌+◌, subst, arith}
+use Rattle.flow.specs.Search.{Valued}
+use Rattle.maps.proofs.Member.{zeros-at}
 use Rattle.flow.proofs.Laws as Laws
 use Rattle.flow.proofs.Duality.{valued-none, valued-more}
 use Rattle.flow.proofs.Failed.{settle-first}
 use Rattle.flow.proofs.augment.Goals as goal
 
-pub loop-got-init : goal.loop-got-init
-loop-got-init c =
+pub loop-units-init : goal.loop-units-init
+loop-units-init c =
     let a = c.args in
-    (omega arith, valued-none a.graph.now a.code.now c.start.new.a a.v (omega arith) c.start.ensures)
+    valued-none a.graph.now a.code.now c.start.new.above a.v (omega arith) c.start.ensures
 
-pub expand-requires : goal.expand-requires
-expand-requires c =
+pub expand-requires-clause-under : goal.expand-requires-clause-under
+expand-requires-clause-under c = Laws.under-self c.args.graph.now c.args.code.now c.args.v
+
+pub loop-units-preserved : goal.loop-units-preserved
+loop-units-preserved c = valued-more c.loop-units.invariant c.if-not-expand.ensures
+
+pub returns-then-not-expand-clause-augmented : goal.returns-then-not-expand-clause-augmented
+returns-then-not-expand-clause-augmented c =
+    let f = c.if-not-expand.ensures in
+    let settled = settle-first (zeros-at 512) f.0 c.loop-units.invariant f.1 in
+    record { most = omega arith; value = settled.value; settled = λ _. settled }
+
+pub returns-clause-augmented : goal.returns-clause-augmented
+returns-clause-augmented c =
     let a = c.args in
-    let v = c.requires.v_bound.0 in record {
-      startable = record {
-        falling = c.requires.falling;
-        marks = omega arith;
-        flow = c.loop-got.invariant.1.flow;
-        node = v;
-        source = v;
-        below = omega arith;
-      };
-      under = Laws.under-self a.graph.now a.code.now a.v;
-      fact = inl refl;
+    let l = c.loop-units in
+    let all : l.units ≡ a.k + 1 = omega arith in
+    record {
+      most = omega arith;
+      value = subst (λ (n : ℕ). Valued a.graph.now a.code.now l.above a.v n) all l.invariant;
+      settled = λ le. absurd (omega arith);
     }
-
-pub loop-got-preserved : goal.loop-got-preserved
-loop-got-preserved c = (omega arith, valued-more c.loop-got.invariant.1 c.if-expand.ensures)
-
-pub returns-else-expand : goal.returns-else-expand
-returns-else-expand c =
-    let l = c.loop-got.invariant in
-    let f = c.if-expand.ensures in
-    let settled = settle-first c.clear.ensures f.0 l.1 f.1 in
-    record { most = l.0; value = settled.value; settled = λ _. settled }
-
-pub returns : goal.returns
-returns c =
-    let l = c.loop-got.invariant in
-    record { most = l.0; value = l.1; settled = λ le. absurd (omega arith) }

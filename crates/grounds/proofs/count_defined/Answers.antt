@@ -1,58 +1,53 @@
--- `grounds::count_defined` meets its contract: n of the first i words from the start are defined, and the others stand from the position on.
-use Prim.Native.Nat.{ℕ, ◌+◌, ◌-◌, ◌≤◌, ◌<◌}
-use mathlib.Core.Path.{◌≡◌, refl, ap, ◌∙◌}
-use mathlib.Core.List.{[]}
+-- `grounds::count_defined` meets its contract: as many as were counted, and those of the words that are left.
+use mathlib.Core.Path.{sym, ap, ◌∙◌}
 use native.Mathlib.Omega.{arith}
-use lib.ListN.{length, get_or, take}
+use Rattle.std.specs.Iterator.Adapters.{take_source, take_count}
+use lib.ListN.{length}
 use Rattle.maps.specs.Lists.{keep}
-use Rattle.blif.specs.Scan.{words_at}
+use Rattle.blif.specs.Words.{Word}
+use Rattle.blif.specs.Scan.{name_at}
 use Rattle.blif.specs.Names.{has}
-use Rattle.blif.specs.Import.{id_of}
-use Rattle.blif.proofs.Walking.{word-here, words-after}
+use Rattle.scan.specs.WordByWord.{words_left}
 use Rattle.names.specs.Table.{names_in}
-use Rattle.grounds.proofs.KeepLaws.{kept_more, kept_same}
-use Rattle.grounds.proofs.TableLaws.{in_table, not-in-table}
-use Rattle.grounds.proofs.count_defined.Goals.{then-id-count, else-id-count}
+use Rattle.grounds.proofs.KeepLaws.{kept_next, kept_same, taken_none}
+use Rattle.grounds.proofs.TableLaws.{in_table}
+use Rattle.grounds.proofs.WordLaws.{next_word}
 use Rattle.grounds.proofs.count_defined.Goals as goal
 
-pub loop-i-init : goal.loop-i-init
-loop-i-init c = (omega arith, refl, omega arith, refl)
+pub overflow_add-defined : goal.overflow_add-defined
+overflow_add-defined c = omega (arith, c.loop-first.invariant.2, c.in-Some.ensures.steps.1)
 
-pub overflow_add-n : goal.overflow_add-n
-overflow_add-n c = omega arith
-
-pub overflow_add-i : goal.overflow_add-i
-overflow_add-i c = omega arith
-
-pub loop-i-smaller : goal.loop-i-smaller
-loop-i-smaller c = omega arith
-
-pub loop-i-preserved : goal.loop-i-preserved
-loop-i-preserved c =
+pub loop-first-preserved-then-is_some : goal.loop-first-preserved-then-is_some
+loop-first-preserved-then-is_some c =
     let a = c.args in
-    let l = c.loop-i in
-    let t = a.text.now in
-    let ws = words_at t a.start in
-    let m : l.i < length ws = omega (arith, c.loop-i-test.true, c.requires.0) in
-    let p = has (names_in a.names.now a.count) in
-    let w = get_or ws l.i [] in
-    let id = c.id_of-id in
-    let e : id.result ≡ id_of (names_in a.names.now a.count) w = id.ensures ∙ ap (id_of (names_in a.names.now a.count)) (word-here t a.start l.at c.after_blanks-first.result l.i l.invariant.1 m c.after_blanks-first.ensures.0).0 in
-    let counted : (c.if-id-count.n ≤ l.i + 1) × (c.if-id-count.n ≡ length (keep p (take (l.i + 1) ws))) = elim c.if-id-count.branch [
-      | then-id-count q ↦
-          (omega (arith, l.invariant.2, q.n-is), omega (arith, q.n-is, l.invariant.3, kept_more p [] ws l.i m (in_table a.names.now a.count id.result w e q.if-id-count.true)))
-      | else-id-count q ↦
-          (omega (arith, l.invariant.2, q.n-is), omega (arith, q.n-is, l.invariant.3, kept_same p [] ws l.i m (not-in-table a.names.now a.count id.result w e q.if-id-count.false)))
-    ] in (
-      omega arith,
-      words-after t a.start l.at c.after_blanks-first.result c.after_word-at.result l.i l.invariant.1 m c.after_blanks-first.ensures.0 c.after_word-at.ensures.0,
-      counted.0,
-      counted.1,
-    )
+    let l = c.loop-first in
+    let first = c.in-Some.first in
+    let s = c.in-Some.ensures.steps in
+    let before = take_source l.first-iterator in
+    let after = take_source c.next.new.self in
+    let id = c.id_of in
+    let e = next_word before.text.now a.text.now first (words_left before) (words_left after) s.0.1.1 l.invariant.0 in
+    let known = in_table a.names.now a.count (name_at a.text.now first) id.result id.ensures.id id.ensures.known in
+    let counted = kept_next (has (names_in a.names.now a.count)) (take_count l.first-iterator) (take_count c.next.new.self) (words_left before) (words_left after) (name_at a.text.now first) e s.1 (known ∙ sym c.is_some.ensures ∙ c.if-is_some.true) in
+    (s.0.0 ∙ l.invariant.0, omega (arith, l.invariant.1, ap (length {A = Word}) e, s.1), omega (arith, l.invariant.2, s.1), omega (arith, l.invariant.3, counted))
+
+pub loop-first-preserved : goal.loop-first-preserved
+loop-first-preserved c =
+    let a = c.args in
+    let l = c.loop-first in
+    let first = c.in-Some.first in
+    let s = c.in-Some.ensures.steps in
+    let before = take_source l.first-iterator in
+    let after = take_source c.next.new.self in
+    let id = c.id_of in
+    let e = next_word before.text.now a.text.now first (words_left before) (words_left after) s.0.1.1 l.invariant.0 in
+    let known = in_table a.names.now a.count (name_at a.text.now first) id.result id.ensures.id id.ensures.known in
+    let counted = kept_same (has (names_in a.names.now a.count)) (take_count l.first-iterator) (take_count c.next.new.self) (words_left before) (words_left after) (name_at a.text.now first) e s.1 (known ∙ sym c.is_some.ensures ∙ c.if-is_some.false) in
+    (s.0.0 ∙ l.invariant.0, omega (arith, l.invariant.1, ap (length {A = Word}) e, s.1), omega (arith, l.invariant.2, s.1), omega (arith, l.invariant.3, counted))
 
 pub returns : goal.returns
 returns c =
-    let a = c.args in
-    let l = c.loop-i in
-    let z : l.i ≡ a.k = omega (arith, l.invariant.0, c.loop-i-test.false) in
-    l.invariant.3 ∙ ap (λ (j : ℕ). length (keep (has (names_in a.names.now a.count)) (take j (words_at a.text.now a.start)))) z
+    let l = c.loop-first in
+    let it = take_source l.first-iterator in
+    let p = has (names_in c.args.names.now c.args.count) in
+    omega (arith, l.invariant.3, ap (λ ws. length (keep p ws)) (taken_none (take_count l.first-iterator) (words_left it) l.invariant.1 (λ h. (c.in-None.ensures.steps h).1.0)))

@@ -1,52 +1,54 @@
 -- `grounds::resolves` meets its contract: the counts say whether all names read are defined and no name defined is; the rest is whether those
 -- defined are different.
-use mathlib.Core.Path.{refl, sym, ap, ◌∙◌}
+use mathlib.Core.Path.{sym, ap, ◌∙◌}
 use mathlib.Core.List.{[]}
 use native.Mathlib.Omega.{arith}
-use lib.ListN.{length, drop, length-drop}
+use borrow.Author.Tests.{eqb-true, eqb-false, lt-ltb}
 use lib.Seq.{take_all}
 use Rattle.blif.specs.Scan.{words_at}
 use Rattle.blif.specs.Names.{fresh}
 use Rattle.names.specs.Table.{names_in}
 use Rattle.grounds.proofs.LineTests.{fresh-few, defines-length, reads-fail, defines-fail, own-names}
 use Rattle.grounds.proofs.resolves.Goals as goal
+use Rattle.grounds.proofs.resolves.Goals.{then-count_defined-parts, else-count_defined-parts}
 
-pub returns-then-count_defined-reads : goal.returns-then-count_defined-reads
-returns-then-count_defined-reads c = λ s P.
+pub returns-then-parts-lt2 : goal.returns-then-parts-lt2
+returns-then-parts-lt2 c = λ s P.
     let a = c.args in
-    let ws = words_at a.text.now a.rest in
-    reads-fail (names_in a.names.now a.count) ws (drop a.parts.reads ws) s a.parts P refl (omega (arith, c.if-count_defined-reads.true, c.count_defined.ensures))
+    let after = words_at a.text.now c.skip_words-after_reads.result in
+    elim c.if-count_defined-parts.branch [
+      | then-count_defined-parts w ↦
+          let none = eqb-true w.count_defined-then-count_defined-parts.result 0 (sym w.value-is ∙ c.if-count_defined-eq0.true) in
+          own-names (names_in a.names.now a.count) (words_at a.text.now a.rest) after s a.parts P c.skip_words-after_reads.ensures _
+          (omega (arith, w.if-count_defined-parts.true, c.count_defined.ensures)) (omega (arith, none, w.count_defined-then-count_defined-parts.ensures))
+          (lt-ltb _ _ c.if-parts-lt2.true ∙ fresh-few a.parts.defines after c.if-parts-lt2.true)
+      | else-count_defined-parts w ↦ absurd (w.if-count_defined-parts.false (eqb-true _ _ (sym w.value-is ∙ c.if-count_defined-eq0.true)))
+    ]
 
--- the words after those read are as many as are defined, or more
-pub count_defined-requires-2 : goal.count_defined-requires-2
-count_defined-requires-2 c =
-    let p = c.requires in
+pub returns-else-parts-lt2 : goal.returns-else-parts-lt2
+returns-else-parts-lt2 c = λ s P.
     let a = c.args in
-    (omega (arith, p.defines_in_bounds.0, ap length c.skip_words-at.ensures, length-drop a.parts.reads (words_at a.text.now a.rest)), p.text_len_bound.1)
+    let after = words_at a.text.now c.skip_words-after_reads.result in
+    let n = defines-length a.parts.reads a.parts.defines (words_at a.text.now a.rest) after c.skip_words-after_reads.ensures c.if-parts-lt2.false c.requires.defines_in_bounds.1 in
+    elim c.if-count_defined-parts.branch [
+      | then-count_defined-parts w ↦
+          let none = eqb-true w.count_defined-then-count_defined-parts.result 0 (sym w.value-is ∙ c.if-count_defined-eq0.true) in
+          own-names (names_in a.names.now a.count) (words_at a.text.now a.rest) after s a.parts P c.skip_words-after_reads.ensures _
+          (omega (arith, w.if-count_defined-parts.true, c.count_defined.ensures)) (omega (arith, none, w.count_defined-then-count_defined-parts.ensures))
+          (c.distinct_words.ensures ∙ ap (fresh []) (sym (take_all a.parts.defines after (omega (arith, n)))))
+      | else-count_defined-parts w ↦ absurd (w.if-count_defined-parts.false (eqb-true _ _ (sym w.value-is ∙ c.if-count_defined-eq0.true)))
+    ]
 
-pub returns-then-count_defined-gt0 : goal.returns-then-count_defined-gt0
-returns-then-count_defined-gt0 c = λ s P.
+pub returns-else-count_defined-eq0 : goal.returns-else-count_defined-eq0
+returns-else-count_defined-eq0 c = λ s P.
     let a = c.args in
-    defines-fail (names_in a.names.now a.count) (words_at a.text.now a.rest) (words_at a.text.now c.skip_words-at.result) s a.parts P c.skip_words-at.ensures (omega (arith, c.if-count_defined-gt0.true, c.count_defined-2.ensures))
-
-pub returns-then-defines-lt2 : goal.returns-then-defines-lt2
-returns-then-defines-lt2 c = λ s P.
-    let a = c.args in
-    own-names (names_in a.names.now a.count) (words_at a.text.now a.rest) (words_at a.text.now c.skip_words-at.result) s a.parts P c.skip_words-at.ensures _
-    (omega (arith, c.if-count_defined-reads.false, c.count_defined.ensures)) (omega (arith, c.if-count_defined-gt0.false, c.count_defined-2.ensures)) (fresh-few a.parts.defines (words_at a.text.now c.skip_words-at.result) c.if-defines-lt2.true)
-
-pub distinct_words-requires : goal.distinct_words-requires
-distinct_words-requires c =
-    let p = c.requires in
-    let a = c.args in
-    (p.text_len_bound.0, defines-length a.parts.reads a.parts.defines (words_at a.text.now a.rest) (words_at a.text.now c.skip_words-at.result) c.skip_words-at.ensures c.if-defines-lt2.false p.defines_in_bounds.1)
-
-pub returns : goal.returns
-returns c = λ s P.
-    let p = c.requires in
-    let a = c.args in
-    let after = words_at a.text.now c.skip_words-at.result in
-    let n = defines-length a.parts.reads a.parts.defines (words_at a.text.now a.rest) after c.skip_words-at.ensures c.if-defines-lt2.false p.defines_in_bounds.1 in
-    own-names (names_in a.names.now a.count) (words_at a.text.now a.rest) after s a.parts P c.skip_words-at.ensures _
-    (omega (arith, c.if-count_defined-reads.false, c.count_defined.ensures)) (omega (arith, c.if-count_defined-gt0.false, c.count_defined-2.ensures))
-    (c.distinct_words.ensures ∙ ap (fresh []) (sym (take_all a.parts.defines after (omega (arith, n)))))
+    let after = words_at a.text.now c.skip_words-after_reads.result in
+    elim c.if-count_defined-parts.branch [
+      | then-count_defined-parts w ↦
+          let some = eqb-false w.count_defined-then-count_defined-parts.result 0 (sym w.value-is ∙ c.if-count_defined-eq0.false) in
+          c.if-count_defined-eq0.false ∙ defines-fail (names_in a.names.now a.count) (words_at a.text.now a.rest) after s a.parts P c.skip_words-after_reads.ensures
+          (omega (arith, some, w.count_defined-then-count_defined-parts.ensures))
+      | else-count_defined-parts w ↦
+          c.if-count_defined-eq0.false ∙ reads-fail (names_in a.names.now a.count) (words_at a.text.now a.rest) after s a.parts P c.skip_words-after_reads.ensures
+          (λ e. w.if-count_defined-parts.false (c.count_defined.ensures ∙ e))
+    ]

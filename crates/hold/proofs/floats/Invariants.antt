@@ -1,9 +1,10 @@
-use Rattle.rows.specs.Cells.{zeros}
+use mathlib.Core.Bool.{not}
+use Rattle.std.specs.List.{count_by}
 use Rattle.hold.proofs.HoldMarks.{Marks}
 use Rattle.hold.proofs.floats.Given as goal
 
-abbrev pub invariant-loop-held : goal.invariant-loop-held
-invariant-loop-held l = Marks l.graph l.differences l.steps l.held l.shift l.n l.m
+abbrev pub invariant-loop-holding : goal.invariant-loop-holding
+invariant-loop-holding l = Marks l.search.tables.now.graph l.search.tables.now.differences l.labels.steps l.held l.shift l.search.limits.nodes l.search.limits.differences
 
-abbrev pub decreases-loop-held : goal.decreases-loop-held
-decreases-loop-held l = zeros l.held
+abbrev pub decreases-loop-holding : goal.decreases-loop-holding
+decreases-loop-holding l = count_by not l.held

@@ -9,7 +9,7 @@ use Rattle.looks.proofs.count_cone.Goals as goal
 
 pub returns : goal.returns
 returns c S C asked inside =
-    let test = c.cut_fits-leaves.ensures S asked in
+    let test = c.cut_fits-leaves.ensures.fit_test S asked in
     let fits = test.0 in
     let same = fun_ext (one-cone S (marked c.args.marks.now) c.args.v fits.cone C fits.is_cone inside) in (
       fits.count ∙ ap (λ (D : ℕ → Bool). min (length (cut S D)) (c.args.k + 1)) same,

@@ -1,48 +1,32 @@
 -- `names::add_name` meets its contract.
-use Prim.Native.Nat.{ℕ, ◌+◌}
-use mathlib.Core.Path.{◌≡◌, sym, subst}
-use mathlib.Core.List.{List, [], ◌∷◌, ◌++◌}
-use native.Mathlib.Omega.{arith}
-use Rattle.blif.specs.Words.{Word}
+use Prim.Native.Nat.{ℕ, ◌+◌, ◌%◌}
+use mathlib.Core.Path.{◌≡◌, sym, ap, subst, ◌∙◌}
+use mathlib.Core.List.{[], ◌∷◌, ◌++◌}
+use lib.ListN.{get_or}
+use Rattle.std.specs.Prelude.{None}
 use Rattle.blif.specs.Scan.{name_at}
-use Rattle.names.specs.Table.{names_in, Listed}
-use Rattle.names.proofs.Tables.{with_name, listed_more, names_more}
+use Rattle.names.specs.Table.{buckets, names_in, Listed}
+use Rattle.names.proofs.Tables.{with_entry, listed_more, names_more}
 use Rattle.names.proofs.add_name.Goals as goal
 
--- what is ensured of a table
-abbrev Added : (before after : List ℕ) (count : ℕ) (w : Word) → Type 0
-Added before after n w = Listed after (n + 1) × (names_in after (n + 1) ≡ names_in before n ++ (w ∷ []))
-
-pub overflow_add-names : goal.overflow_add-names
-overflow_add-names c = omega arith
-
-pub offset_bounds-names-count : goal.offset_bounds-names-count
-offset_bounds-names-count c = omega arith
-
-pub bounds-names-count : goal.bounds-names-count
-bounds-names-count c = omega arith
-
-pub overflow_add-names-2 : goal.overflow_add-names-2
-overflow_add-names-2 c = omega arith
-
-pub offset_bounds-names-count-2 : goal.offset_bounds-names-count-2
-offset_bounds-names-count-2 c = omega arith
-
-pub bounds-names-count-2 : goal.bounds-names-count-2
-bounds-names-count-2 c = omega arith
-
-pub overflow_cast-names : goal.overflow_cast-names
-overflow_cast-names c = omega arith
-
-pub overflow_add-names-3 : goal.overflow_add-names-3
-overflow_add-names-3 c = omega arith
-
-pub returns : goal.returns
-returns c =
+pub returns-clause-listed_2 : goal.returns-clause-listed_2
+returns-clause-listed_2 c =
     let a = c.args in
     let p = c.requires in
+    let t = a.names.now in
     let w = name_at a.text.now a.at in
-    let q = c.put_name in
-    let stored = subst (λ (h : ℕ). Added a.names.now (with_name q.new.names a.count h) a.count w) (sym c.name_hash-hash.ensures)
-    (listed_more p.listed.0 p.listed.1 q.ensures p.at_len_bound.0 p.at_len_bound.1, names_more p.listed.0 p.listed.1 q.ensures p.at_len_bound.0) in
-    record { listed_2 = stored.0; count_after = stored.1 }
+    let q = c.new in
+    let h = c.name_hash-hash.ensures in
+    subst (λ (b : ℕ). Listed (with_entry t a.count (b % buckets) q.result) (a.count + 1)) (sym h)
+    (listed_more t a.count w q.result p.listed.0 p.listed.1 q.ensures.bytes q.ensures.kept.2 (q.ensures.kept.0 ∙ h)
+    (q.ensures.kept.1 ∙ ap (λ (b : ℕ). get_or t.heads (b % buckets) None) h) p.at_len_bound.1)
+
+pub returns-clause-count_after : goal.returns-clause-count_after
+returns-clause-count_after c =
+    let a = c.args in
+    let p = c.requires in
+    let t = a.names.now in
+    let w = name_at a.text.now a.at in
+    let q = c.new in
+    subst (λ (b : ℕ). names_in (with_entry t a.count (b % buckets) q.result) (a.count + 1) ≡ names_in t a.count ++ (w ∷ [])) (sym c.name_hash-hash.ensures)
+    (names_more t a.count w q.result p.listed.0 p.listed.1 q.ensures.bytes)

@@ -1,52 +1,51 @@
--- `names::id_of` meets its contract: the search has come to e, and no name from there on is the one that is sought.
-use Prim.Native.Nat.{ℕ, ◌-◌, ◌%◌, ◌<◌}
+-- `names::id_of` meets its contract: the search has come to an id, and no name from there on is the one that is sought.
+use Prim.Native.Nat.{ℕ, ◌%◌, ◌<◌}
 use mathlib.Core.Path.{sym, subst, ◌∙◌}
-use native.Mathlib.Omega.{arith}
 use lib.ListN.{get_or}
+use Rattle.std.specs.Prelude.{Option, None}
 use Rattle.blif.specs.Scan.{name_at}
-use Rattle.names.specs.Table.{buckets, head_place}
+use Rattle.names.specs.Table.{buckets, slot, entry_in}
 use Rattle.names.proofs.Searching.{Searched, search-begins, search-falls, search-goes, search-differs, search-finds, search-ends}
-use Rattle.names.proofs.id_of.Goals.{else-names-i-via-then-names-i+else-is_name, else-names-i-via-else-names-i}
+use Rattle.names.proofs.id_of.Goals.{else-entry-hash-via-then-entry-hash+else-is_at, else-entry-hash-via-else-entry-hash}
 use Rattle.names.proofs.id_of.Goals as goal
 
-pub loop-e-init : goal.loop-e-init
-loop-e-init c =
+pub loop-next-init : goal.loop-next-init
+loop-next-init c =
     let a = c.args in
     let w = name_at a.text.now a.at in
-    subst (λ (h : ℕ). Searched a.names.now a.count w (get_or a.names.now (head_place (h % buckets)) 0)) (sym c.name_hash-hash.ensures) (search-begins c.requires w)
+    subst (λ (h : ℕ). Searched a.names.now a.count w (slot (get_or a.names.now.heads (h % buckets) None))) (sym c.name_hash-hash.ensures) (search-begins c.requires w)
 
-pub is_name-requires : goal.is_name-requires
-is_name-requires c =
-    let l = c.loop-e in
-    let h : l.e - 1 < c.args.count = omega (arith, l.invariant.within, c.loop-e-test.true) in
-    (omega (arith, h, c.requires.few), c.requires.short (l.e - 1) h)
-
-pub returns-then-is_name : goal.returns-then-is_name
-returns-then-is_name c =
-    let l = c.loop-e in
-    let a = c.args in
-    search-finds c.requires (name_at a.text.now a.at) l.e c.loop-e-test.true l.invariant (sym c.is_name.ensures ∙ c.if-is_name.true)
-
-pub loop-e-smaller : goal.loop-e-smaller
-loop-e-smaller c =
-    let l = c.loop-e in
-    let a = c.args in
-    search-falls c.requires (name_at a.text.now a.at) l.e c.loop-e-test.true l.invariant
-
-pub loop-e-preserved : goal.loop-e-preserved
-loop-e-preserved c =
-    let l = c.loop-e in
+pub returns-then-is_at-clause-id : goal.returns-then-is_at-clause-id
+returns-then-is_at-clause-id c =
     let a = c.args in
     let w = name_at a.text.now a.at in
-    let differs = search-differs c.requires w l.e c.loop-e-test.true l.invariant in
-    search-goes c.requires w l.e c.loop-e-test.true l.invariant
-    (elim c.else-names-i.branch [
-      | else-names-i-via-then-names-i+else-is_name j ↦ sym j.is_name.ensures ∙ j.if-is_name.false
-      | else-names-i-via-else-names-i j ↦ differs (λ q. j.if-names-i.false (q ∙ sym c.name_hash-hash.ensures))
-    ])
+    let s = subst (λ (n : Option ℕ). Searched a.names.now a.count w (slot n)) c.in-Some.is c.loop-next.invariant in
+    c.from-id.ensures ∙ search-finds c.requires w c.in-Some.i s (sym (rw c.from-id.ensures at c.is_at.ensures) ∙ c.if-is_at.true)
 
-pub returns : goal.returns
-returns c =
-    let l = c.loop-e in
+pub loop-next-smaller : goal.loop-next-smaller
+loop-next-smaller c =
     let a = c.args in
-    search-ends c.requires (name_at a.text.now a.at) l.e c.loop-e-test.false l.invariant
+    let w = name_at a.text.now a.at in
+    let s = subst (λ (n : Option ℕ). Searched a.names.now a.count w (slot n)) c.in-Some.is c.loop-next.invariant in
+    let less : slot (entry_in a.names.now c.from-id.result).next < slot c.loop-next.next = rw (c.from-id.ensures, c.in-Some.is) (search-falls c.requires w c.in-Some.i s) in
+    less
+
+pub loop-next-preserved : goal.loop-next-preserved
+loop-next-preserved c =
+    let a = c.args in
+    let w = name_at a.text.now a.at in
+    let f = c.from-id.ensures in
+    let s = subst (λ (n : Option ℕ). Searched a.names.now a.count w (slot n)) c.in-Some.is c.loop-next.invariant in
+    let differs = search-differs c.requires w c.in-Some.i s in
+    rw f
+    (search-goes c.requires w c.in-Some.i s
+    (elim c.else-entry-hash.branch [
+      | else-entry-hash-via-then-entry-hash+else-is_at j ↦ sym (rw f at j.is_at.ensures) ∙ j.if-is_at.false
+      | else-entry-hash-via-else-entry-hash j ↦ differs (λ q. (rw f at j.if-entry-hash.false) (q ∙ sym c.name_hash-hash.ensures))
+    ]))
+
+pub returns-clause-id : goal.returns-clause-id
+returns-clause-id c =
+    let a = c.args in
+    let w = name_at a.text.now a.at in
+    search-ends c.requires w (subst (λ (n : Option ℕ). Searched a.names.now a.count w (slot n)) c.in_default.is c.loop-next.invariant)

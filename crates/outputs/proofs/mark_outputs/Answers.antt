@@ -1,29 +1,22 @@
 -- `outputs::mark_outputs` meets its contract: what marking the outputs of the lines from the position on comes to is what marking all comes to.
-use Prim.Native.Nat.{◌-◌}
-use mathlib.Core.Path.{refl, ◌∙◌}
-use native.Mathlib.Omega.{arith}
+use mathlib.Core.Path.{◌∙◌}
+use Rattle.std.specs.Prelude.{Ok, Err}
+use Rattle.types.specs.declared.Refusal.TheVariants.{Name}
 use Rattle.names.specs.Table.{names_in}
 use Rattle.names.proofs.Tables.{length-names}
-use Rattle.outputs.specs.declared.Marked.TheVariants.{All, Undefined}
 use Rattle.outputs.proofs.Marking.{outputs-end, outputs-marked, outputs-stop, model-marked}
 use Rattle.outputs.proofs.mark_outputs.Goals as goal
 
-pub loop-at-init : goal.loop-at-init
-loop-at-init c = (refl, λ after r p. p)
-
-pub returns-then-not-mark_line : goal.returns-then-not-mark_line
-returns-then-not-mark_line c =
+pub returns-then-not-mark_line-clause-by_index : goal.returns-then-not-mark_line-clause-by_index
+returns-then-not-mark_line-clause-by_index c =
     let l = c.loop-at in
     let a = c.args in
     let ns = names_in a.names.now a.count in
     let nodes = c.mark_line.new.nodes in
     let stop =
     outputs-stop a.text.now ns l.at c.after_line-next.result c.loop-at-test.true c.after_line-next.ensures.0 l.nodes nodes nodes c.mark_line.result c.mark_line.ensures.words_marked
-    c.line_number.result c.if-not-mark_line.true c.line_number.ensures in record { by_index = model-marked a.text.now ns a.count a.nodes.now nodes (Undefined c.line_number.result) (length-names a.names.now a.count) (l.invariant.1 nodes (Undefined c.line_number.result) stop); nodes_len_unchanged = c.mark_line.ensures.nodes_len_unchanged ∙ l.invariant.0 }
-
-pub loop-at-smaller : goal.loop-at-smaller
-loop-at-smaller c =
-    omega (arith, c.loop-at-test.true, c.after_line-next.ensures.1 c.loop-at-test.true)
+    c.line_number.result c.if-not-mark_line.true c.line_number.ensures in
+    model-marked a.text.now ns a.count a.nodes.now nodes (Err (Name c.line_number.result)) (length-names a.names.now a.count) (l.invariant.1 nodes (Err (Name c.line_number.result)) stop)
 
 pub loop-at-preserved : goal.loop-at-preserved
 loop-at-preserved c =
@@ -38,8 +31,9 @@ loop-at-preserved c =
           r c.if-not-mark_line.false p),
     )
 
-pub returns : goal.returns
-returns c =
+pub returns-clause-by_index : goal.returns-clause-by_index
+returns-clause-by_index c =
     let l = c.loop-at in
     let a = c.args in
-    let ns = names_in a.names.now a.count in record { by_index = model-marked a.text.now ns a.count a.nodes.now l.nodes All (length-names a.names.now a.count) (l.invariant.1 l.nodes All (outputs-end a.text.now ns l.at l.nodes c.loop-at-test.false)); nodes_len_unchanged = l.invariant.0 }
+    let ns = names_in a.names.now a.count in
+    model-marked a.text.now ns a.count a.nodes.now l.nodes (Ok tt) (length-names a.names.now a.count) (l.invariant.1 l.nodes (Ok tt) (outputs-end a.text.now ns l.at l.nodes c.loop-at-test.false))

@@ -11,8 +11,8 @@ returns-then-spells c =
 
 pub returns-then-spells-2 : goal.returns-then-spells-2
 returns-then-spells-2 c =
-    (head-outputs (name_at c.args.text.now c.args.first) (words_at c.args.text.now c.args.rest) (sym c.spells.ensures ∙ c.if-spells.false) (sym c.spells-2.ensures ∙ c.if-spells-2.true), tt)
+    (head-outputs (name_at c.args.text.now c.args.first) (words_at c.args.text.now c.args.rest) (sym c.spells.ensures ∙ c.if-spells.false) (sym c.spells-else-spells.ensures ∙ c.if-spells-2.true), tt)
 
-pub returns : goal.returns
-returns c =
-    (head-other (name_at c.args.text.now c.args.first) (words_at c.args.text.now c.args.rest) (statement_meant c.body_line.result (words_at c.args.text.now c.args.rest)) (sym c.spells.ensures ∙ c.if-spells.false) (sym c.spells-2.ensures ∙ c.if-spells-2.false) c.body_line.ensures.0, c.body_line.ensures.1)
+pub returns-else-spells-2 : goal.returns-else-spells-2
+returns-else-spells-2 c =
+    (head-other (name_at c.args.text.now c.args.first) (words_at c.args.text.now c.args.rest) (statement_meant c.body_line.result (words_at c.args.text.now c.args.rest)) (sym c.spells.ensures ∙ c.if-spells.false) (sym c.spells-else-spells.ensures ∙ c.if-spells-2.false) c.body_line.ensures.0, c.body_line.ensures.1)

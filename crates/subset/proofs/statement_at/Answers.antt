@@ -4,20 +4,6 @@ use Rattle.subset.specs.Meant.{statement_meant}
 use Rattle.subset.proofs.LineLaws.{cover-line, latched-line, last_line}
 use Rattle.subset.proofs.statement_at.Goals as goal
 
-pub body_line-requires : goal.body_line-requires
-body_line-requires c = (c.requires, c.row_line-other.ensures.1)
-
-pub body_line-requires-in-Latched : goal.body_line-requires-in-Latched
-body_line-requires-in-Latched c = (c.requires, tt)
-
-pub returns-in-First : goal.returns-in-First
-returns-in-First c =
-    (rw c.in-First.is c.first_line.ensures.0, c.first_line.ensures.1)
-
-pub returns-in-Head : goal.returns-in-Head
-returns-in-Head c =
-    (rw c.in-Head.is c.head_line.ensures.0, c.head_line.ensures.1)
-
 pub returns-in-Cover : goal.returns-in-Cover
 returns-in-Cover c =
     (rw c.in-Cover.is (cover-line (name_at c.args.text.now c.args.first) (words_at c.args.text.now c.args.rest) c.in-Cover.inputs (statement_meant c.body_line.result (words_at c.args.text.now c.args.rest)) (statement_meant c.row_line-other.result (words_at c.args.text.now c.args.rest)) c.row_line-other.ensures.0 c.body_line.ensures.0), c.body_line.ensures.1)

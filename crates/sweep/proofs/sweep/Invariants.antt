@@ -1,4 +1,4 @@
-use Prim.Native.Nat.{ℕ, ◌-◌, ◌≤◌}
+use Prim.Native.Nat.{ℕ}
 use Rattle.maps.specs.Sheet.{Sheet}
 use Rattle.relax.specs.Sweep.{Sweeping}
 use Rattle.bound.specs.Lookup.{label_in, Heeded}
@@ -8,9 +8,6 @@ use Rattle.sweep.proofs.sweep.Given as goal
 
 abbrev pub invariant-loop-v : goal.invariant-loop-v
 invariant-loop-v l =
-    (l.v ≤ l.limits.nodes)
-    × ((S : Sheet) (bound : ℕ → ℕ) → Sweepable S bound l.graph l.differences l.limits l.first l.next l.initial.steps l.initial.levels
-    → Timed S l.limits.horizon l.steps l.levels × Sweeping S bound (Heeded l.first) (label_in l.initial.steps l.initial.levels) l.v (label_in l.steps l.levels))
-
-abbrev pub decreases-loop-v : goal.decreases-loop-v
-decreases-loop-v l = l.v
+    (S : Sheet) (bound : ℕ → ℕ) → Sweepable S bound l.search.tables.now.graph l.search.tables.now.differences l.search.limits l.search.first.now l.search.next.now l.initial.labels.steps l.initial.labels.levels
+    → Timed S l.search.limits.horizon l.labels.steps l.labels.levels
+    × Sweeping S bound (Heeded l.search.first.now) (label_in l.initial.labels.steps l.initial.labels.levels) l.v (label_in l.labels.steps l.labels.levels)

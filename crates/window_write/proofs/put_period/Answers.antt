@@ -6,24 +6,24 @@ use Rattle.maps.specs.Form.{among}
 use Rattle.maps.specs.Write.{entry}
 use Rattle.maps.proofs.WrittenSize.{within-bytes}
 use Rattle.ranges.proofs.RangeLaws.{windows-right}
-use Rattle.fields.proofs.WroteLaws.{begun, stopped, last_one, room-left, room-less}
+use Rattle.fields.proofs.WroteLaws.{stopped, more, room-left, room-less}
 use Rattle.window_write.proofs.put_period.Goals as goal
 
-pub put_field-period_put-requires : goal.put_field-period_put-requires
-put_field-period_put-requires c = room-less (omega arith) c.requires.1
+pub put_field-requires : goal.put_field-requires
+put_field-requires c = room-less (omega arith) c.requires.1
 
-pub returns-in_default : goal.returns-in_default
-returns-in_default c =
-    stopped (entry (among (windows_range c.args.n)) c.args.count ∷ []) c.in_default.is c.put_field-period_put.ensures
+pub returns-in_err-put_field : goal.returns-in_err-put_field
+returns-in_err-put_field c =
+    stopped (entry (among (windows_range c.args.n)) c.args.count ∷ []) c.from_residual.ensures.1 c.in_err-put_field.ensures
 
 pub put_in-requires : goal.put_in-requires
 put_in-requires c =
-    let i = windows-right c.range_of.result _ c.args.n c.requires.0 c.range_of.ensures c.up_to-counts.ensures in
-    let w = begun c.in-Next.is c.put_field-period_put.ensures in
+    let i = windows-right c.range_of.result _ c.args.n c.requires.0 c.range_of.ensures c.up_to.ensures in
+    let w = c.in_ok-put_field.ensures in
     let most = within-bytes {n = c.args.n} {most = size_range.high} c.requires.0 in
     (omega (arith, i.1, c.requires.0), rw i.1 (room-left w (omega (arith, most)) c.requires.1))
 
 pub returns : goal.returns
 returns c =
-    let i = windows-right c.range_of.result _ c.args.n c.requires.0 c.range_of.ensures c.up_to-counts.ensures in
-    last_one (begun c.in-Next.is c.put_field-period_put.ensures) (rw (i.0, i.1) at c.put_in.ensures)
+    let i = windows-right c.range_of.result _ c.args.n c.requires.0 c.range_of.ensures c.up_to.ensures in
+    more c.in_ok-put_field.ensures (rw (i.0, i.1) at c.put_in.ensures)

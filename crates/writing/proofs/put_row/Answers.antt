@@ -7,4 +7,4 @@ use Rattle.writing.proofs.put_row.Goals as goal
 
 pub returns : goal.returns
 returns c =
-    rw append_assoc (put_then row_bytes_most (omega arith) c.put_node-middle.ensures c.put_cut.ensures)
+    rw append_assoc (put_then row_bytes_most (omega arith) c.put_node.ensures c.put_cut.ensures)

@@ -1,4 +1,4 @@
-use Prim.Native.Nat.{◌-◌, ◌*◌, ◌≤◌}
+use Prim.Native.Nat.{◌*◌}
 use mathlib.Core.List.{map}
 use Rattle.maps.specs.Lists.{below, concat}
 use Rattle.writing.specs.Bytes.{flat_row}
@@ -7,8 +7,4 @@ use Rattle.out_bytes.specs.Put.{Put}
 use Rattle.writing.proofs.put_rows.Given as goal
 
 abbrev pub invariant-loop-v : goal.invariant-loop-v
-invariant-loop-v l =
-    (l.v ≤ l.n) × Put (l.v * row_bytes_most) l.initial.bytes l.bytes l.at l.to (concat (map (flat_row l.steps l.levels l.used l.cuts) (below l.v)))
-
-abbrev pub decreases-loop-v : goal.decreases-loop-v
-decreases-loop-v l = l.n - l.v
+invariant-loop-v l = Put (l.v * row_bytes_most) l.initial.plan.bytes l.plan.bytes l.initial.plan.len l.plan.len (concat (map (flat_row l.labels.steps l.labels.levels l.used l.cuts) (below l.v)))

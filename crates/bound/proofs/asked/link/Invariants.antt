@@ -1,11 +1,7 @@
-use Prim.Native.Nat.{◌-◌, ◌≤◌}
 use mathlib.Core.Path.{◌≡◌}
 use lib.ListN.{length}
 use Rattle.bound.specs.Lookup.{Linked}
 use Rattle.bound.proofs.asked.link.Given as goal
 
 abbrev pub invariant-loop-i : goal.invariant-loop-i
-invariant-loop-i l = (l.i ≤ l.m) × Linked l.differences l.i l.first l.next × (length l.first ≡ 256) × (length l.next ≡ 1024)
-
-abbrev pub decreases-loop-i : goal.decreases-loop-i
-decreases-loop-i l = l.m - l.i
+invariant-loop-i l = Linked l.differences l.i l.first l.next × (length l.first ≡ 256) × (length l.next ≡ 1024)

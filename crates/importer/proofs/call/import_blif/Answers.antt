@@ -3,25 +3,17 @@ use mathlib.Core.Path.{refl, sym, ◌∙◌}
 use native.Mathlib.Omega.{arith}
 use lib.ListN.{length}
 use Rattle.blif.specs.Limits.{caller}
-use Rattle.blif.proofs.Sheets.{callable-true}
 use Rattle.importer.proofs.Calls.{answered-as, barred-caller, barred-text}
 use Rattle.importer.proofs.call.import_blif.Goals as goal
+use Rattle.importer.proofs.call.import_blif.Goals.{then-not-is_callable-via-then-not-is_callable, then-not-is_callable-via-else-not-is_callable+then-text-gt-TEXT_MOST}
 
 pub returns-then-not-is_callable : goal.returns-then-not-is_callable
 returns-then-not-is_callable c =
-    answered-as c.args.buffer.now (barred-caller c.args.text.now (caller c.args.leaves c.args.top c.args.horizon c.args.table c.args.level) (sym c.is_callable.ensures ∙ c.if-not-is_callable.true) (length c.args.buffer.now)) (refl, refl, refl)
-
-pub returns-then-text-gt65536 : goal.returns-then-text-gt65536
-returns-then-text-gt65536 c =
-    answered-as c.args.buffer.now (barred-text c.args.text.now (caller c.args.leaves c.args.top c.args.horizon c.args.table c.args.level) (sym c.is_callable.ensures ∙ c.if-not-is_callable.false) (omega (arith, c.if-text-gt65536.true)) (length c.args.buffer.now)) (refl, refl, refl)
-
-pub delay_of-delay-requires : goal.delay_of-delay-requires
-delay_of-delay-requires c =
-    (callable-true (caller c.args.leaves c.args.top c.args.horizon c.args.table c.args.level) (sym c.is_callable.ensures ∙ c.if-not-is_callable.false)).level
-
-pub import_text-requires : goal.import_text-requires
-import_text-requires c = omega (arith, c.if-text-gt65536.false)
-
-pub returns : goal.returns
-returns c =
-    c.import_text.ensures (caller c.args.leaves c.args.top c.args.horizon c.args.table c.args.level) (sym c.is_callable.ensures ∙ c.if-not-is_callable.false) refl refl refl (sym c.delay_of-delay.ensures)
+    let a = c.args in
+    let C = caller a.leaves a.top a.horizon a.table a.level in
+    elim c.then-not-is_callable.branch [
+      | then-not-is_callable-via-then-not-is_callable w ↦
+          answered-as a.buffer.now (barred-caller a.text.now C (sym c.is_callable.ensures ∙ w.if-not-is_callable.true) (length a.buffer.now)) (refl, refl, refl)
+      | then-not-is_callable-via-else-not-is_callable+then-text-gt-TEXT_MOST w ↦
+          answered-as a.buffer.now (barred-text a.text.now C (sym c.is_callable.ensures ∙ w.if-not-is_callable.false) (omega (arith, w.if-text-gt-TEXT_MOST.true)) (length a.buffer.now)) (refl, refl, refl)
+    ]

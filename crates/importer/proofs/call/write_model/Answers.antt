@@ -1,57 +1,26 @@
 -- `call::write_model` meets its contract.
-use Prim.Native.Nat.{ℕ}
-use mathlib.Core.Path.{refl, sym, ap, ◌∙◌}
-use native.Mathlib.Omega.{arith}
-use mathlib.Core.List.{[]}
-use lib.ListN.{length, take}
-use lib.Seq.{length-take-le}
-use Rattle.maps.specs.Write.{writing}
-use Rattle.records.specs.Rows.{node_place, records_in}
+use mathlib.Core.Path.{refl}
+use lib.ListN.{length}
+use Rattle.std.proofs.lemmas.Result.{err_from_is_err_and}
 use Rattle.blif.specs.Limits.{delay}
+use Rattle.importer.specs.Meant.{caller_meant}
 use Rattle.importer.proofs.Calls.{answered-as, all-marked, one-undefined}
 use Rattle.importer.proofs.call.write_model.Goals as goal
 
-pub overflow_mul-n : goal.overflow_mul-n
-overflow_mul-n c = omega (arith, c.requires.1.2.listed.few)
+pub returns-in_err-mark_outputs : goal.returns-in_err-mark_outputs
+returns-in_err-mark_outputs c =
+    let C = caller_meant c.args.caller in
+    let r = c.requires in
+    let M = r.kept.0 in
+    let k = r.kept.1 in
+    let p = err_from_is_err_and c.from_residual.result c.from_residual.ensures.1 in
+    rw (p.1, p.2)
+    (answered-as c.args.buffer.now (one-undefined c.args.text.now C M r.kept.2 r.callable.1 r.callable.0 c.mark_outputs.new.nodes c.in_err-mark_outputs.field-0.0 (c.in_err-mark_outputs.ensures.by_index (delay C) M r.kept.2 k.named k.rows) (length c.args.buffer.now)) (refl, refl, refl))
 
-pub mark_outputs-marked-requires : goal.mark_outputs-marked-requires
-mark_outputs-marked-requires c =
-    let k = c.requires.1.2 in
-    (k.listed, omega (arith, k.wide, k.listed.few))
-
-pub slice_bounds-write-end : goal.slice_bounds-write-end
-slice_bounds-write-end c =
-    let k = c.requires.1.2 in
-    omega (arith, c.mark_outputs-marked.ensures.nodes_len_unchanged, k.wide, k.listed.few)
-
-pub slice_bounds-write-end-in-All : goal.slice_bounds-write-end-in-All
-slice_bounds-write-end-in-All c =
-    let k = c.requires.1.2 in
-    sym (length-take-le (node_place c.args.size.nodes) c.mark_outputs-marked.new.nodes (omega (arith, c.mark_outputs-marked.ensures.nodes_len_unchanged, k.wide, k.listed.few)))
-
-pub slice_bounds-write-end-in-All-2 : goal.slice_bounds-write-end-in-All-2
-slice_bounds-write-end-in-All-2 c =
-    let k = c.requires.1.2 in
-    sym (length-take-le c.args.size.operands c.args.operands.now (omega (arith, k.few, k.long, k.listed.few)))
-
-pub slice_bounds-write-end-in-All-3 : goal.slice_bounds-write-end-in-All-3
-slice_bounds-write-end-in-All-3 c = refl
-
-pub slice_bounds-write-end-in-All-4 : goal.slice_bounds-write-end-in-All-4
-slice_bounds-write-end-in-All-4 c = refl
-
-pub returns-in-Undefined : goal.returns-in-Undefined
-returns-in-Undefined c =
-    let m = c.mark_outputs-marked in
-    λ caller M h el et eh k f.
-    answered-as c.args.buffer.now (one-undefined c.args.text.now caller M f h c.requires.0 _ m.result _ c.in-Undefined.is (m.ensures.by_index (delay caller) M f k.named k.rows) (length c.args.buffer.now)) (refl, refl, refl)
-
-pub returns-in-All : goal.returns-in-All
-returns-in-All c =
-    let m = c.mark_outputs-marked in
-    λ caller M h el et eh k f.
-    answered-as c.args.buffer.now (ap (λ (x : ℕ). writing (records_in x c.args.top c.args.horizon (take (node_place c.args.size.nodes) m.new.nodes) (take c.args.size.operands c.args.operands.now) [] 1 []) (length c.args.buffer.now)) (sym el)
-    ∙ ap (λ (x : ℕ). writing (records_in caller.leaves x c.args.horizon (take (node_place c.args.size.nodes) m.new.nodes) (take c.args.size.operands c.args.operands.now) [] 1 []) (length c.args.buffer.now)) (sym et)
-    ∙ ap (λ (x : ℕ). writing (records_in caller.leaves caller.top x (take (node_place c.args.size.nodes) m.new.nodes) (take c.args.size.operands c.args.operands.now) [] 1 []) (length c.args.buffer.now)) (sym eh)
-    ∙ all-marked c.args.text.now caller M f h c.requires.0 m.new.nodes m.result c.in-All.is k (m.ensures.by_index (delay caller) M f k.named k.rows) (length c.args.buffer.now))
-    c.write.ensures
+pub returns : goal.returns
+returns c =
+    let C = caller_meant c.args.caller in
+    let r = c.requires in
+    let M = r.kept.0 in
+    let k = r.kept.1 in
+    answered-as c.args.buffer.now (all-marked c.args.text.now C M r.kept.2 r.callable.1 r.callable.0 c.mark_outputs.new.nodes k (c.in_ok-mark_outputs.ensures.by_index (delay C) M r.kept.2 k.named k.rows) (length c.args.buffer.now)) c.write.ensures

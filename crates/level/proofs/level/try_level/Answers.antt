@@ -5,8 +5,8 @@ use Rattle.level.proofs.level.try_level.Goals as goal
 
 pub returns-clause-tried_level : goal.returns-clause-tried_level
 returns-clause-tried_level c =
-    let steps = c.args.steps.now in
-    let levels = c.args.levels.now in
+    let steps = c.args.labels.now.steps in
+    let levels = c.args.labels.now.levels in
     let a = label_of c.args.by in
     let e = c.try_cut in
     λ S p.

@@ -1,5 +1,5 @@
 -- `line::read_line` meets its contract.
-use mathlib.Core.Path.{refl, sym, ◌∙◌}
+use mathlib.Core.Path.{sym, ◌∙◌}
 use Rattle.blif.proofs.Walking.{words-none}
 use Rattle.model.proofs.Turning.{turn-empty}
 use Rattle.model.proofs.line.read_line.Goals as goal
@@ -7,13 +7,5 @@ use Rattle.model.proofs.line.read_line.Goals as goal
 pub returns-then-line_ends : goal.returns-then-line_ends
 returns-then-line_ends c =
     let first = c.after_blanks-first in
-    λ M k. turn-empty c.args.text.now c.args.delay c.args.at c.args.state.stage M c.args.state refl
+    λ M k. turn-empty c.args.text.now c.args.delay c.args.at c.args.stage M c.args.circuit.now
     (words-none c.args.text.now c.args.at first.result first.ensures.0 (sym c.line_ends.ensures ∙ c.if-line_ends.true)) k
-
-pub read_words-requires : goal.read_words-requires
-read_words-requires c =
-    let first = c.after_blanks-first in
-    record { at_in_bounds = (c.requires.at_in_bounds.0, c.requires.at_in_bounds.1, first.ensures.0, sym c.line_ends.ensures ∙ c.if-line_ends.false); kept = c.requires.kept }
-
-pub returns : goal.returns
-returns c = c.read_words.ensures

@@ -1,22 +1,20 @@
 -- `lines::line_count` meets its contract: as many lines as bytes 10, and one more where the last byte is none.
-use Prim.Native.Nat.{◌<◌}
-use mathlib.Core.Path.{sym, ◌∙◌}
 use native.Mathlib.Omega.{arith}
-use lib.ListN.{length}
+use mathlib.Core.Path.{sym, ◌∙◌}
 use Rattle.scan.proofs.Newlines.{lines_none, lines-ended, lines-open}
 use Rattle.scan.proofs.lines.line_count.Goals as goal
 
-pub returns-then-size-eq0 : goal.returns-then-size-eq0
-returns-then-size-eq0 c = lines_none c.args.text.now c.if-size-eq0.true
+pub returns-in-Some : goal.returns-in-Some
+returns-in-Some c =
+    let k = c.in-Some.ensures.item.3 in
+    omega (arith, c.newline_count-ended.ensures.0, lines-open c.args.text.now k.0 (λ e. c.if-b-ne-NEWLINE.true (k.1 0 ∙ e)))
 
-pub returns-then-text-size-eq-NEWLINE : goal.returns-then-text-size-eq-NEWLINE
-returns-then-text-size-eq-NEWLINE c =
-    let s = c.args.text.now in
-    let l : 0 < length s = omega arith in
-    c.newline_count-ended.ensures.0 ∙ sym (lines-ended s l c.if-text-size-eq-NEWLINE.true)
+pub returns-in_default : goal.returns-in_default
+returns-in_default c =
+    let k = c.in-Some.ensures.item.3 in
+    c.newline_count-ended.ensures.0 ∙ sym (lines-ended c.args.text.now k.0 (sym (k.1 0) ∙ c.if-b-ne-NEWLINE.false))
 
-pub returns : goal.returns
-returns c =
-    let s = c.args.text.now in
-    let l : 0 < length s = omega arith in
-    omega (arith, c.newline_count-ended.ensures.0, lines-open s l c.if-text-size-eq-NEWLINE.false)
+pub returns-in_default-2 : goal.returns-in_default-2
+returns-in_default-2 c =
+    let k = rw c.in_default.is at c.last.ensures.item in
+    omega (arith, k.3, c.newline_count-ended.ensures.1, lines_none c.args.text.now (omega (arith, k.3)))

@@ -1,36 +1,15 @@
--- `name::name_hash` meets its contract: the hash so far, with what is left of the name, is the name's.
-use mathlib.Core.Path.{sym, ap, ◌∙◌}
-use native.Mathlib.Omega.{arith}
-use Rattle.scan.specs.Steps.{left}
-use Rattle.scan.specs.Hash.{hash_from, hash_of}
-use Rattle.scan.proofs.NameBytes.{left-none, left-next, ahead-falls}
-use Rattle.scan.proofs.Measuring.{hash-none, hash-more}
+-- `name::name_hash` meets its contract.
+use mathlib.Core.Path.{◌∙◌}
+use Rattle.std.proofs.Common.{rules}
+use Rattle.std.proofs.lemmas.Iterator.Consumers.{YieldsList-from_first, fold_from_yields_List}
+use Rattle.blif.specs.Scan.{name_at}
+use Rattle.scan.specs.Name.{bytes_left}
+use Rattle.scan.specs.Hash.{hash_with}
+use Rattle.scan.proofs.Measuring.{hash-folded}
 use Rattle.scan.proofs.name.name_hash.Goals as goal
-
-pub loop-p-init : goal.loop-p-init
-loop-p-init c =
-    let m = c.name_next-p.ensures in
-    (ap hash_of (sym m.name), m.inside)
-
-pub overflow_sub-b : goal.overflow_sub-b
-overflow_sub-b c = omega arith
-
-pub bounds-text-p : goal.bounds-text-p
-bounds-text-p c = omega arith
-
-pub loop-p-smaller : goal.loop-p-smaller
-loop-p-smaller c = ahead-falls c.args.text.now c.loop-p.p c.name_next-p-in-loop-p.result c.loop-p-test.true c.loop-p.invariant.1 c.name_next-p-in-loop-p.ensures
-
-pub loop-p-preserved : goal.loop-p-preserved
-loop-p-preserved c =
-    let s = c.args.text.now in
-    let k = c.loop-p in
-    let m = c.name_next-p-in-loop-p.ensures in
-    let q = c.name_next-p-in-loop-p.result in
-    (ap (λ h. hash_from h (left s q)) c.hash_with-hash.ensures ∙ sym (hash-more k.hash _ (left s k.p) (left s q) (left-next s k.p q c.loop-p-test.true m)) ∙ k.invariant.0, m.inside)
 
 pub returns : goal.returns
 returns c =
-    let s = c.args.text.now in
-    let k = c.loop-p in
-    sym (hash-none k.hash (left s k.p) (left-none s k.p c.loop-p-test.false)) ∙ k.invariant.0
+    let w = name_at c.args.text.now c.args.at in
+    fold_from_yields_List _ hash_with 2166136261 c.fold.result c.fold.ensures.ran (YieldsList-from_first (λ x. x) bytes_left w (cc)) (λ a x b q k. search rules)
+    ∙ hash-folded 2166136261 w

@@ -7,13 +7,14 @@ use Rattle.schedule.specs.Round.{steps_in, rounds_most}
 use Rattle.schedule.proofs.Rounds.{Few}
 use Rattle.schedule.proofs.labels.relax.Given as goal
 
-abbrev pub invariant-loop-steps : goal.invariant-loop-steps
-invariant-loop-steps l =
-    ((S : Sheet) (bound : ℕ → ℕ) → Going S l.graph l.differences l.limits l.first l.next l.initial.kept l.initial.steps l.initial.levels → Pass S bound (label_in l.initial.steps l.initial.levels) 0
-    → Going S l.graph l.differences l.limits l.heeded l.next l.kept l.steps l.levels × Pass S bound (label_in l.steps l.levels) 0)
-    × Few l.limits (steps_in l.limits.nodes l.steps) l.rounds l.due
+abbrev pub invariant-loop-course : goal.invariant-loop-course
+invariant-loop-course l =
+    ((S : Sheet) (bound : ℕ → ℕ) → Going S l.search.tables.now.graph l.search.tables.now.differences l.search.limits l.search.first.now l.search.next.now l.initial.kept l.initial.labels.steps l.initial.labels.levels
+    → Pass S bound (label_in l.initial.labels.steps l.initial.labels.levels) 0
+    → Going S l.search.tables.now.graph l.search.tables.now.differences l.search.limits l.heeded l.search.next.now l.kept l.labels.steps l.labels.levels × Pass S bound (label_in l.labels.steps l.labels.levels) 0)
+    × Few l.search.limits (steps_in l.search.limits.nodes l.labels.steps) l.rounds l.due
     × (l.testing ≤ l.due)
 
-abbrev pub decreases-loop-steps : goal.decreases-loop-steps
-decreases-loop-steps l =
-    rounds_most l.limits - l.rounds
+abbrev pub decreases-loop-course : goal.decreases-loop-course
+decreases-loop-course l =
+    rounds_most l.search.limits - l.rounds

@@ -1,28 +1,18 @@
--- `sheet::read_differences` meets its contract: one difference a turn.
-use mathlib.Core.Path.{refl, sym, ap, ◌∙◌}
+-- `fill::read_differences` meets its contract: one difference a turn.
+use mathlib.Core.Path.{refl, sym, ◌∙◌}
 use borrow.Author.Rules.{rules}
-use native.Mathlib.Nat.{sub-zero}
 use native.Mathlib.Omega.{arith}
-use Rattle.sheet.specs.Code.{progress_meant}
+use Rattle.std.proofs.lemmas.Result.{err_from_is_err_and}
 use Rattle.sheet.proofs.Turns.{turn, stop, done}
 use Rattle.sheet.proofs.fill.read_differences.Goals as goal
 
-pub loop-i-init : goal.loop-i-init
-loop-i-init c = (refl, search rules, rw sub-zero)
-
-pub returns-in_default : goal.returns-in_default
-returns-in_default c =
-    sym
-    (c.loop-i.invariant.2
-    ∙ stop _ _ _ _ _ _ c.read_difference-read.ensures _ (search rules) _ _ (ap progress_meant c.in_default.is))
+pub returns-in_err-at : goal.returns-in_err-at
+returns-in_err-at c =
+    let p = err_from_is_err_and c.from_residual.result c.from_residual.ensures.1 in
+    rw (p.1, p.2) (sym (stop _ _ _ _ _ _ c.in_err-at.ensures _ (search rules) _ _ refl) ∙ c.loop-i.invariant)
 
 pub loop-i-preserved : goal.loop-i-preserved
-loop-i-preserved c = (
-  search rules,
-  search rules,
-  c.loop-i.invariant.2
-      ∙ turn _ _ _ _ _ _ c.read_difference-read.ensures _ (search rules) _ (ap progress_meant c.in-Next.is),
-)
+loop-i-preserved c = sym (turn _ _ _ _ _ _ c.in_ok-at.ensures _ (search rules) _ refl) ∙ c.loop-i.invariant
 
 pub returns : goal.returns
-returns c = sym (c.loop-i.invariant.2 ∙ done _ _ _ _ _ (omega arith))
+returns c = sym (done _ _ _ _ _ (omega arith)) ∙ c.loop-i.invariant

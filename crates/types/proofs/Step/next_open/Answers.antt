@@ -16,12 +16,6 @@ returns-then-rest-to c =
     let a = c.args in
     code_here a.period 0 a.from a.to a.self.0 c.if-rest-from.false c.if-rest-to.true
 
-pub overflow_sub-left : goal.overflow_sub-left
-overflow_sub-left c =
-    let a = c.args in
-    let p : 0 < a.period = search rules in
-    omega (arith, mod-lt a.self.0 p)
-
 pub returns : goal.returns
 returns c =
     let a = c.args in

@@ -1,36 +1,31 @@
--- `parts::put_operands` meets its contract. The invariant: the first i ids are written.
+-- `parts::put_operands` meets its contract: one id after the other.
 use native.Mathlib.Omega.{arith}
-use Rattle.maps.specs.Form.{under}
-use Rattle.maps.specs.Write.{entry}
-use Rattle.maps.proofs.Numbers.{slice-below}
+use lib.ListN.{length}
 use Rattle.fields.proofs.WroteLaws.{rows-room, wrote_none, rows_next, rows-stop, rows_all}
-use Rattle.writer.proofs.parts.put_operands.Invariants.{id}
+use Rattle.writer.proofs.NodeRows.{operand_in, operands-below}
 use Rattle.writer.proofs.parts.put_operands.Goals as goal
 
-pub loop-i-init : goal.loop-i-init
-loop-i-init c = (omega arith, wrote_none _ _)
+pub loop-id-init : goal.loop-id-init
+loop-id-init c = wrote_none _
 
-pub put_operand-part-requires : goal.put_operand-part-requires
-put_operand-part-requires c =
-    let l = c.loop-i in
-    (c.requires.1, rows-room (id c.args.operands.now c.args.own c.args.first) (λ j p. omega arith) l.i c.args.count (omega (arith, c.loop-i-test.true)) l.invariant.1 c.requires.2)
+pub put_operand-requires : goal.put_operand-requires
+put_operand-requires c =
+    let l = c.loop-id in
+    (c.requires.0, rows-room (operand_in c.args.own c.args.operands.now) (λ j p. omega arith) l.id-index _ c.loop-id-test.true l.invariant c.requires.1)
 
-pub returns-in_default : goal.returns-in_default
-returns-in_default c =
-    let l = c.loop-i in
-    rw (slice-below (entry (under c.args.own)) c.args.operands.now c.args.first c.args.count c.requires.0)
-    (rows-stop (id c.args.operands.now c.args.own c.args.first) l.i c.args.count (omega (arith, c.loop-i-test.true)) c.in_default.is l.invariant.1 c.put_operand-part.ensures)
+pub returns-in_err-put_operand : goal.returns-in_err-put_operand
+returns-in_err-put_operand c =
+    let l = c.loop-id in
+    rw operands-below
+    (rows-stop (operand_in c.args.own c.args.operands.now) l.id-index _ c.loop-id-test.true c.from_residual.ensures.1 l.invariant c.in_err-put_operand.ensures)
 
-pub loop-i-preserved : goal.loop-i-preserved
-loop-i-preserved c =
-    let l = c.loop-i in
-    let e = c.in-Next.is in (
-      omega (arith, c.loop-i-test.true),
-      rows_next (id c.args.operands.now c.args.own c.args.first) l.i e l.invariant.1 c.put_operand-part.ensures,
-    )
+pub loop-id-preserved : goal.loop-id-preserved
+loop-id-preserved c =
+    let l = c.loop-id in
+    rows_next (operand_in c.args.own c.args.operands.now) l.id-index l.invariant c.in_ok-put_operand.ensures
 
 pub returns : goal.returns
 returns c =
-    let l = c.loop-i in
-    rw (slice-below (entry (under c.args.own)) c.args.operands.now c.args.first c.args.count c.requires.0)
-    (rows_all (id c.args.operands.now c.args.own c.args.first) l.i c.args.count l.invariant.0 (omega (arith, c.loop-i-test.false)) l.invariant.1)
+    let l = c.loop-id in
+    rw operands-below
+    (rows_all (operand_in c.args.own c.args.operands.now) l.id-index (length c.args.operands.now) (omega arith) (omega (arith, c.loop-id-test.false)) l.invariant)

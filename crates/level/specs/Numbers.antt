@@ -1,0 +1,12 @@
+-- The table of the kept cuts as one list of numbers, eight for each node.
+use Rattle.std.specs.Prelude.{ℕ, List, [], ◌∷◌, ◌++◌, get_or}
+use Rattle.level.specs.declared.cuts.Cut.{Cut}
+
+-- the numbers of a cut: how many leaves it has, then its seven leaves
+unfoldable pub numbers_of : Cut → List ℕ
+numbers_of c = let leaf = λ (j : ℕ). get_or c.leaves j 0 in c.count ∷ leaf 0 ∷ leaf 1 ∷ leaf 2 ∷ leaf 3 ∷ leaf 4 ∷ leaf 5 ∷ leaf 6 ∷ []
+
+-- the numbers of each cut, one after another
+unfoldable pub numbers : List Cut → List ℕ
+numbers [] = []
+numbers (c ∷ rows) = numbers_of c ++ numbers rows
