@@ -17,6 +17,7 @@ ghost use Rattle.cover.specs.Covering.{used_in, MarkedAll, SoundCount, Written, 
 
 use bound::Labels;
 use cut::choose;
+use flow::Code;
 use level::{Cuts, codes};
 use rows::{Graph, Header, count_in, kind_in, operand_in, output_in};
 use types::{Kind, Level};
@@ -87,7 +88,7 @@ fn choose_cut(
     ensures picked { (S : Sheet) → Laid S graph.now labels.now.steps labels.now.levels limits → v < size S → logic_node S v ≡ true
         → Picked S (labels_in (size S) labels.now.steps labels.now.levels) v limits.leaves (unwrap_or result (limits.leaves + 1)) cut.new }
 {
-    let mut code = [0u8; 256];
+    let mut code = [Code::Inner; 256];
     let by = labels.label_of(v);
     codes(graph, labels, &mut code, v, Level(limits.top), by);
     choose(graph, &code, cut, v, limits.leaves)

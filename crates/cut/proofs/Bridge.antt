@@ -16,8 +16,7 @@ use Rattle.maps.proofs.Enumerate.{Ordered, path-le}
 use Rattle.maps.proofs.Planned.{ordered}
 use Rattle.rows.specs.Table.{count_in, operand_in, Falling}
 use Rattle.cut.specs.Question.{AllowedCut, Fewest, Best, code_for, Asked}
-use Rattle.rows.specs.Cells.{cell}
-use Rattle.flow.specs.Search.{Leafy, Closed, Touch, Leaf, bit, Valued, Settled, Augmented, Final, member, leaf_mark, rising}
+use Rattle.flow.specs.Search.{may_inside, Leafy, Closed, Touch, Leaf, bit, Valued, Settled, Augmented, Final, member, leaf_mark, rising}
 use Rattle.flow.proofs.Bools.{bool, differ, bit-true, and_yes}
 use Rattle.flow.proofs.Sums.{sum, sum-tight, length-rising}
 use Rattle.cut.proofs.Listing.{keep-rising, rising-same, rising-low}
@@ -25,6 +24,8 @@ use Rattle.flow.proofs.Duality.{units-least}
 use Rattle.flow.proofs.Failed.{settled-closed, settled_root, leaf-mark, marks-size}
 use Rattle.cut.proofs.Exchange.{final-first}
 use Rattle.cut.proofs.Joined.{joined, joined-root, joined_in, joined-le, joined-path, joined-whole}
+use Rattle.flow.specs.declared.Code.{Code}
+use Rattle.flow.specs.declared.Code.TheVariants.{Inner, Barred}
 
 -- an element stands at a place
 member-place : {u : ℕ} (us : List ℕ) → Memᴰ u us → (j : ℕ) × (j < length us) × (get_or us j 0 ≡ u)
@@ -37,7 +38,7 @@ place-member [] j lt = absurd (not-suc-le-zero lt)
 place-member (x ∷ xs) zero lt = Memᴰ.head refl
 place-member (x ∷ xs) (suc j) lt = Memᴰ.tail (place-member xs j (omega arith))
 
-module _ {S : Sheet} {may : ℕ → Bool} {v : ℕ} {graph code : List ℕ} (asked : Asked S may v graph code) where
+module _ {S : Sheet} {may : ℕ → Bool} {v : ℕ} {graph : List ℕ} {code : List Code} (asked : Asked S may v graph code) where
   ord : Ordered S
   ord = ordered S asked.well
 
@@ -101,34 +102,34 @@ module _ {S : Sheet} {may : ℕ → Bool} {v : ℕ} {graph code : List ℕ} (ask
       go (inl e) = subst P (sym e) here
       go (inr l) = under u l
 
-  code_inside : (u : ℕ) → u ≤ v → logic_node S u ≡ true → cell code u < 3
-  code_inside = down_to (λ u. logic_node S u ≡ true → cell code u < 3) (λ t. omega (arith, asked.own)) (λ u l t. go (logic_node S u) (may u) t (asked.below u l))
+  code_inside : (u : ℕ) → u ≤ v → logic_node S u ≡ true → may_inside (get_or code u Inner) ≡ true
+  code_inside = down_to (λ u. logic_node S u ≡ true → may_inside (get_or code u Inner) ≡ true) (λ t. ap may_inside asked.own) (λ u l t. go (logic_node S u) (may u) t (asked.below u l))
     where
-      go : {n : ℕ} (a b : Bool) → a ≡ true → n ≡ code_for a b → n < 3
-      go true true t e = omega arith
-      go true false t e = omega arith
+      go : {n : Code} (a b : Bool) → a ≡ true → n ≡ code_for a b → may_inside n ≡ true
+      go true true t e = ap may_inside e
+      go true false t e = ap may_inside e
       go false b t e = absurd (differ false t refl)
 
-  code-logic : (u : ℕ) → u ≤ v → cell code u < 3 → logic_node S u ≡ true
-  code-logic = down_to (λ u. cell code u < 3 → logic_node S u ≡ true) (λ l. asked.logic) (λ u l t. go (logic_node S u) (may u) t (asked.below u l))
+  code-logic : (u : ℕ) → u ≤ v → may_inside (get_or code u Inner) ≡ true → logic_node S u ≡ true
+  code-logic = down_to (λ u. may_inside (get_or code u Inner) ≡ true → logic_node S u ≡ true) (λ l. asked.logic) (λ u l t. go (logic_node S u) (may u) t (asked.below u l))
     where
-      go : {n : ℕ} (a b : Bool) → n < 3 → n ≡ code_for a b → a ≡ true
+      go : {n : Code} (a b : Bool) → may_inside n ≡ true → n ≡ code_for a b → a ≡ true
       go true b t e = refl
-      go false true t e = absurd (omega arith)
-      go false false t e = absurd (omega arith)
+      go false true t e = sym (ap may_inside e) ∙ t
+      go false false t e = sym (ap may_inside e) ∙ t
 
   code-leafy : (u : ℕ) → u < v → may u ≡ true → Leafy code u
   code-leafy u l t = go (logic_node S u) (may u) t (asked.below u l)
     where
-      go : {n : ℕ} (a b : Bool) → b ≡ true → n ≡ code_for a b → ((n ≡ 0) → ⊥) × ((n ≡ 4) → ⊥)
-      go true true t e = (λ z. omega arith, λ z. omega arith)
-      go false true t e = (λ z. omega arith, λ z. omega arith)
+      go : {n : Code} (a b : Bool) → b ≡ true → n ≡ code_for a b → ((n ≡ Inner) → ⊥) × ((n ≡ Barred) → ⊥)
+      go true true t e = (λ z. (cc), λ z. (cc))
+      go false true t e = (λ z. (cc), λ z. (cc))
       go a false t e = absurd (differ false t refl)
 
   code-may : (u : ℕ) → u < v → Leafy code u → may u ≡ true
   code-may u l t = go (logic_node S u) (may u) t (asked.below u l)
     where
-      go : {n : ℕ} (a b : Bool) → ((n ≡ 0) → ⊥) × ((n ≡ 4) → ⊥) → n ≡ code_for a b → b ≡ true
+      go : {n : Code} (a b : Bool) → ((n ≡ Inner) → ⊥) × ((n ≡ Barred) → ⊥) → n ≡ code_for a b → b ≡ true
       go a true t e = refl
       go true false t e = absurd (t.0 e)
       go false false t e = absurd (t.1 e)
@@ -166,7 +167,7 @@ module _ {S : Sheet} {may : ℕ → Bool} {v : ℕ} {graph code : List ℕ} (ask
 
   -- ---- the marks of a failed search have the leaves of a cone
 
-  module _ (falling : Falling graph) {s above : List ℕ} {f : ℕ} (settled : Settled graph code s above v f) where
+  module _ (falling : Falling graph) {s : List Bool} {above : List ℕ} {f : ℕ} (settled : Settled graph code s above v f) where
     R : ℕ → Bool
     R = joined S (member s) v
 
@@ -254,14 +255,14 @@ module _ {S : Sheet} {may : ℕ → Bool} {v : ℕ} {graph code : List ℕ} (ask
 
   -- ---- what the public functions promise
 
-  pub fewest-units : Falling graph → {s above : List ℕ} {k r : ℕ} → Augmented graph code s above v k r → Fewest S may v k r
+  pub fewest-units : Falling graph → {s : List Bool} {above : List ℕ} {k r : ℕ} → Augmented graph code s above v k r → Fewest S may v k r
   fewest-units falling {s} a = record {
     most = a.most;
     met = λ le. (rising (leaf_mark s) 256, marks-allowed falling (a.settled le), marks-length falling (a.settled le));
     least = units-few a.value;
   }
 
-  pub best-marks : Falling graph → {s above : List ℕ} {f : ℕ} → Final graph code s above v f → Best S may v (rising (leaf_mark s) 256)
+  pub best-marks : Falling graph → {s : List Bool} {above : List ℕ} {f : ℕ} → Final graph code s above v f → Best S may v (rising (leaf_mark s) 256)
   best-marks falling {s} fin = record {
     is_allowed = marks-allowed falling fin.settled;
     fewest = λ o a. omega (arith, marks-length falling fin.settled, units-few fin.settled.value o a);

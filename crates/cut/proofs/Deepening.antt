@@ -18,6 +18,7 @@ use Rattle.flow.proofs.Marks.{member-yes, member-no}
 use Rattle.flow.proofs.Laws.{count_set}
 use Rattle.flow.proofs.Duality.{exclude}
 use Rattle.flow.proofs.Failed.{settle-more, settled-closed, settled_root, stay, cross-leaf, leaf-mark, mark-cross, marks-size, marks-have}
+use Rattle.flow.specs.declared.Code.{Code}
 
 -- an element at two places counts twice
 twice : (u i j : ℕ) (l : List ℕ) → i < length l → j < length l → ((i ≡ j) → ⊥) → cell l i ≡ u → cell l j ≡ u → 2 ≤ count u l
@@ -30,7 +31,7 @@ twice u i j l li lj ne e e' =
     let r = ap bit (ne_eqb (u + 1) u (λ q. omega arith)) in
     omega arith
 
-module _ {graph code s above : List ℕ} {v f : ℕ} (falling : Falling graph) (low-v : v < 256) (t : Settled graph code s above v f) where
+module _ {graph : List ℕ} {code : List Code} {s : List Bool} {above : List ℕ} {v f : ℕ} (falling : Falling graph) (low-v : v < 256) (t : Settled graph code s above v f) where
   -- a member but v that another node names carries flow, from a member above it
   climb : (q y : ℕ) → q < 256 → y < 256 → ((y ≡ q) → ⊥) → cell above y ≡ q → member s q ≡ true → ((q ≡ v) → ⊥) → (q < cell above q) × (member s (cell above q) ≡ true)
   climb q y lq ly ne e h nv = (go (ℕ_discrete (cell above q) q), stay falling low-v t q lq h)
@@ -73,11 +74,11 @@ module _ {graph code s above : List ℕ} {v f : ℕ} (falling : Falling graph) (
 -- new member q: q carries a unit too, as y names it, and ids rise on the way, so that a member of before is reached, at the latest v. The last new
 -- member on the way was then a leaf before, above x and hence excluded, and cannot be in a closed set with f leaves: so there is no such q
 -- (`new-below`). So growing at x brings leaves below x only.
-pub record Partly (graph code s above : List ℕ) (v f x : ℕ) : Type 0 where
+pub record Partly (graph : List ℕ) (code : List Code) (s : List Bool) (above : List ℕ) (v f x : ℕ) : Type 0 where
   pub settled : Settled graph code s above v f
   pub excluded : (y : ℕ) → x ≤ y → y < 256 → Leaf graph (member s) y → Excluded graph code v f y
 
-module _ {graph code s s' above : List ℕ} {v f : ℕ} (x : ℕ) (falling : Falling graph) (low-v : v < 256) (old : Partly graph code s above v f (x + 1)) (new : Settled graph code s' above v f) where
+module _ {graph : List ℕ} {code : List Code} {s s' : List Bool} {above : List ℕ} {v f : ℕ} (x : ℕ) (falling : Falling graph) (low-v : v < 256) (old : Partly graph code s above v f (x + 1)) (new : Settled graph code s' above v f) where
   -- a node that the new marks hold is not excluded
   free : (q : ℕ) → member s' q ≡ true → Excluded graph code v f q → ⊥
   unfolding Excluded
@@ -114,25 +115,25 @@ module _ {graph code s s' above : List ℕ} {v f : ℕ} (x : ℕ) (falling : Fal
 
 -- ---- one turn
 
-pub partly-first : {graph code s above : List ℕ} {v f : ℕ} → Falling graph → v < 256 → Settled graph code s above v f → Partly graph code s above v f v
+pub partly-first : {graph : List ℕ} {code : List Code} {s : List Bool} {above : List ℕ} {v f : ℕ} → Falling graph → v < 256 → Settled graph code s above v f → Partly graph code s above v f v
 partly-first falling low t = record { settled = t; excluded = λ y le lt h. let b = leaf-below falling low t y lt h in absurd (omega arith) }
 
-pub partly-last : {graph code s above : List ℕ} {v f : ℕ} → Partly graph code s above v f 0 → Final graph code s above v f
+pub partly-last : {graph : List ℕ} {code : List Code} {s : List Bool} {above : List ℕ} {v f : ℕ} → Partly graph code s above v f 0 → Final graph code s above v f
 partly-last p = record { settled = p.settled; excluded = λ x lt h. p.excluded x (omega arith) lt h }
 
 -- the marks stay, for a reason at x
-partly-same : {graph code s above : List ℕ} {v f x : ℕ} → Partly graph code s above v f (x + 1) → (Leaf graph (member s) x → Excluded graph code v f x) → Partly graph code s above v f x
+partly-same : {graph : List ℕ} {code : List Code} {s : List Bool} {above : List ℕ} {v f x : ℕ} → Partly graph code s above v f (x + 1) → (Leaf graph (member s) x → Excluded graph code v f x) → Partly graph code s above v f x
 partly-same {graph} {code} {s} {above} {v} {f} {x} p here = record { settled = p.settled; excluded = λ y le lt h. go y lt h (eq-or-lt_of_le le) }
   where
     go : (y : ℕ) → y < 256 → Leaf graph (member s) y → (x ≡ y) ⊎ (x < y) → Excluded graph code v f y
     go y lt h (inl e) = subst (λ (z : ℕ). Excluded graph code v f z) e (here (subst (λ (z : ℕ). Leaf graph (member s) z) (sym e) h))
     go y lt h (inr l) = p.excluded y (omega arith) lt h
 
-pub partly-turn : {graph code s s' above : List ℕ} {v f x : ℕ} → Falling graph → v < 256 → x < 256 → Turned graph code s s' above x → Partly graph code s above v f (x + 1) → Partly graph code s' above v f x
+pub partly-turn : {graph : List ℕ} {code : List Code} {s s' : List Bool} {above : List ℕ} {v f x : ℕ} → Falling graph → v < 256 → x < 256 → Turned graph code s s' above x → Partly graph code s above v f (x + 1) → Partly graph code s' above v f x
 partly-turn {x = x} falling low lx (grown b seen) p =
     let new = settle-more p.settled b in
     record { settled = new; excluded = new-excluded x falling low p new b.grow seen lx }
 partly-turn {graph} {code} {s} {s'} {above} {v} {f} {x} falling low lx (held e above' push) p =
-    subst (λ (m : List ℕ). Partly graph code m above v f x) (sym e) (partly-same p (λ h. exclude low lx p.settled.value push))
+    subst (λ (m : List Bool). Partly graph code m above v f x) (sym e) (partly-same p (λ h. exclude low lx p.settled.value push))
 partly-turn {graph} {code} {s} {s'} {above} {v} {f} {x} falling low lx (within e out) p =
-    subst (λ (m : List ℕ). Partly graph code m above v f x) (sym e) (partly-same p (λ h. absurd (differ (leaf_mark s x) (leaf-mark falling low p.settled x lx h) out)))
+    subst (λ (m : List Bool). Partly graph code m above v f x) (sym e) (partly-same p (λ h. absurd (differ (leaf_mark s x) (leaf-mark falling low p.settled x lx h) out)))

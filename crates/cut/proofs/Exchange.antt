@@ -19,6 +19,7 @@ use Rattle.flow.proofs.Sums.{sum, sum-count, mix, mix-low, mix-high, sum-mix, ri
 use Rattle.cut.proofs.Ascending.{first-rising}
 use Rattle.flow.proofs.Duality.{units-least}
 use Rattle.flow.proofs.Failed.{settled-closed, settled_root, marks-size, marks-have}
+use Rattle.flow.specs.declared.Code.{Code}
 
 -- Let S be the final marks, with f leaves, and M any closed set for v with as few. No leaf of S is in M, as no closed set with f leaves holds v and
 -- that leaf. Fix an id b, and take of S the nodes that are in M or below b. This set is closed and holds v (`joined-closed`). A leaf of it below b
@@ -26,7 +27,7 @@ use Rattle.flow.proofs.Failed.{settled-closed, settled_root, marks-size, marks-h
 -- too, it would be in the set, and otherwise it would be a leaf of S in M. So it is a leaf of M (`joined-leaf`). Weak duality gives f leaves at
 -- least, so S's leaves below b with M's from b on are no fewer than all of M's: below b, S has at least as many leaves as M (`exchange`).
 -- That holds for each b, and so S's list has the smaller id at the first difference (`first-rising`).
-module _ (graph code : List ℕ) (falling : Falling graph) (S M : ℕ → Bool) (closed : Closed graph code S) (closed' : Closed graph code M)
+module _ (graph : List ℕ) (code : List Code) (falling : Falling graph) (S M : ℕ → Bool) (closed : Closed graph code S) (closed' : Closed graph code M)
     (out : (x : ℕ) → x < 256 → Leaf graph S x → M x ≡ true → ⊥) (b : ℕ) where
   abbrev joined : ℕ → Bool
   joined x = S x && (M x || ltb x b)
@@ -75,7 +76,7 @@ module _ (graph code : List ℕ) (falling : Falling graph) (S M : ℕ → Bool) 
       go s (inl i) q (inr nm) (no n) = inr (omega arith, (nm, (h.1.0, h.1.1, i, h.1.3, h.1.4)))
 
 -- of the leaves of the final marks at least as many lie below b as of any closed set's leaves that are as few
-exchange : {graph code s above : List ℕ} {v f : ℕ} → Falling graph → v < 256 → Settled graph code s above v f → ((x : ℕ) → x < 256 → Leaf graph (member s) x → Excluded graph code v f x)
+exchange : {graph : List ℕ} {code : List Code} {s : List Bool} {above : List ℕ} {v f : ℕ} → Falling graph → v < 256 → Settled graph code s above v f → ((x : ℕ) → x < 256 → Leaf graph (member s) x → Excluded graph code v f x)
     → (L D : List ℕ) (M : ℕ → Bool) → Closed graph code M → M v ≡ true → length D ≤ f
     → ((x : ℕ) → x < 256 → Leaf graph (member s) x → 1 ≤ count x L) → ((x : ℕ) → x < 256 → Leaf graph M x → 1 ≤ count x D)
     → (b : ℕ) → b ≤ 256 → sum (λ x. count x D) b ≤ sum (λ x. count x L) b
@@ -99,7 +100,7 @@ exchange {graph} {code} {s} {above} {v} {f} falling low t excluded L D M closed 
     out x lt leaf e = let r = excluded x lt leaf M closed root e D all' in omega arith
 
 -- the leaves of final marks come first among the leaves of all closed sets for v that have as few
-pub final-first : {graph code s above : List ℕ} {v f : ℕ} → Falling graph → v < 256 → Final graph code s above v f
+pub final-first : {graph : List ℕ} {code : List Code} {s : List Bool} {above : List ℕ} {v f : ℕ} → Falling graph → v < 256 → Final graph code s above v f
     → (C : ℕ → Bool) (g : ℕ → Bool) → Closed graph code C → C v ≡ true → ((x : ℕ) → x < 256 → Leaf graph C x → g x ≡ true) → length (rising g 256) ≡ f
     → (rising (leaf_mark s) 256 ≡ rising g 256) ⊎ (before (rising (leaf_mark s) 256) (rising g 256) ≡ true)
 final-first {graph} {code} {s} {above} {v} {f} falling low fin C g closed root all size =

@@ -18,6 +18,8 @@ use Rattle.maps.proofs.Enumerate.{clash, path-le}
 use Rattle.cone.specs.Walk.{marked, Question, FitTest}
 use Rattle.cut.specs.Question.{AllowedCut, code_for, Asked}
 use Rattle.cut.specs.Quick.{inside_mark, InsideMarked, AllLeaves}
+use Rattle.flow.specs.declared.Code.{Code}
+use Rattle.flow.specs.declared.Code.TheVariants.{Inner, Either, Outer, Barred}
 
 -- where nothing is marked
 pub none_marked : (n i : ℕ) → get_or (replicate n false) i false ≡ false
@@ -25,33 +27,34 @@ none_marked zero i = refl
 none_marked (suc n) zero = refl
 none_marked (suc n) (suc i) = none_marked n i
 
--- a node is marked exactly where its code is 0
-mark_code : (c : ℕ) → inside_mark c ≡ true → c ≡ 0
-mark_code zero e = refl
-mark_code (suc c) e = clash e
+-- a node is marked exactly where it must be inside
+mark_code : (c : Code) → inside_mark c ≡ true → c ≡ Inner
+mark_code Inner e = refl
+mark_code Either e = clash e
+mark_code Outer e = clash e
+mark_code Barred e = clash e
 
-code-mark : (c : ℕ) → inside_mark c ≡ false → c ≡ 0 → ⊥
-code-mark zero e q = clash (sym e)
-code-mark (suc c) e q = omega arith
+code-mark : (c : Code) → inside_mark c ≡ false → c ≡ Inner → ⊥
+code-mark c e q = clash (sym e ∙ ap inside_mark q)
 
-must-logic : (l m : Bool) → code_for l m ≡ 0 → l ≡ true
+must-logic : (l m : Bool) → code_for l m ≡ Inner → l ≡ true
 must-logic true m e = refl
-must-logic false true e = absurd (omega arith)
-must-logic false false e = absurd (omega arith)
+must-logic false true e = (cc)
+must-logic false false e = (cc)
 
-may-leaf : (l m : Bool) → (code_for l m ≡ 0 → ⊥) → (code_for l m ≡ 4 → ⊥) → m ≡ true
+may-leaf : (l m : Bool) → (code_for l m ≡ Inner → ⊥) → (code_for l m ≡ Barred → ⊥) → m ≡ true
 may-leaf true true a b = refl
 may-leaf false true a b = refl
 may-leaf true false a b = absurd (a refl)
 may-leaf false false a b = absurd (b refl)
 
-module _ (S : Sheet) (may : ℕ → Bool) (v : ℕ) (graph code : List ℕ) (marks : List Bool) (asked : Asked S may v graph code) (inside : InsideMarked code marks v) where
+module _ (S : Sheet) (may : ℕ → Bool) (v : ℕ) (graph : List ℕ) (code : List Code) (marks : List Bool) (asked : Asked S may v graph code) (inside : InsideMarked code marks v) where
   -- a marked node is below v and must be inside
-  inner : (u : ℕ) → marked marks u ≡ true → (u < v) × (get_or code u 0 ≡ 0)
+  inner : (u : ℕ) → marked marks u ≡ true → (u < v) × (get_or code u Inner ≡ Inner)
   inner u e = go (ltb u v) refl
     where
-      go : (b : Bool) → ltb u v ≡ b → (u < v) × (get_or code u 0 ≡ 0)
-      go true q = (ltb-true u v q, mark_code (get_or code u 0) (sym (inside.below u (ltb-true u v q)) ∙ e))
+      go : (b : Bool) → ltb u v ≡ b → (u < v) × (get_or code u Inner ≡ Inner)
+      go true q = (ltb-true u v q, mark_code (get_or code u Inner) (sym (inside.below u (ltb-true u v q)) ∙ e))
       go false q = clash (sym (inside.past u (ltb-false u v q)) ∙ e)
 
   -- what the walk is asked
@@ -102,6 +105,6 @@ module _ (S : Sheet) (may : ℕ → Bool) (v : ℕ) (graph code : List ℕ) (mar
             let p = subst (λ (u : ℕ). (u < v) × (marked marks u ≡ false)) here o in
             let e = asked.below (get_or (take r list) j 0) p.0 in
             may-leaf (logic_node S (get_or (take r list) j 0)) (may (get_or (take r list) j 0))
-            (λ q. code-mark (get_or code (get_or (take r list) j 0) 0)
+            (λ q. code-mark (get_or code (get_or (take r list) j 0) Inner)
             (sym (inside.below (get_or (take r list) j 0) p.0) ∙ p.1) (e ∙ q))
-            (λ q. leaves.leafy j few (ap (λ (u : ℕ). get_or code u 0) (sym (get_or-take r list j 0 few)) ∙ e ∙ q))
+            (λ q. leaves.leafy j few (ap (λ (u : ℕ). get_or code u Inner) (sym (get_or-take r list j 0 few)) ∙ e ∙ q))

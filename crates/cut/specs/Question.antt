@@ -5,6 +5,8 @@ use Rattle.maps.specs.Sheet.{Sheet, size}
 use Rattle.maps.specs.Cut.{Cone, cut, logic_node}
 use Rattle.maps.specs.WellFormed.{WellFormed}
 use Rattle.rows.specs.Table.{Tabled}
+use Rattle.flow.specs.declared.Code.{Code}
+use Rattle.flow.specs.declared.Code.TheVariants.{Inner, Either, Outer, Barred}
 
 module _ (S : Sheet) (may : ℕ → Bool) (v : ℕ) where
   -- the cut of a cone of v whose leaves are all allowed
@@ -26,18 +28,18 @@ module _ (S : Sheet) (may : ℕ → Bool) (v : ℕ) where
     pub fewest : (o : List ℕ) → AllowedCut o → length c ≤ length o
     pub first : (o : List ℕ) → AllowedCut o → length o ≡ length c → (c ≡ o) ⊎ (before c o ≡ true)
 
--- the code of a node: 0 logic that must be inside, 1 logic that may be a leaf or inside, 3 an input or box that may be a leaf, 4 one that may not
-abbrev pub code_for : (logic may : Bool) → ℕ
-code_for true false = 0
-code_for true true = 1
-code_for false true = 3
-code_for false false = 4
+-- the code of a node: logic may be inside, and a node that may be a leaf is allowed as one
+abbrev pub code_for : (logic may : Bool) → Code
+code_for true false = Inner
+code_for true true = Either
+code_for false true = Outer
+code_for false false = Barred
 
 -- the tables ask about v: the graph is the sheet's, and the codes are those of the allowed nodes
-pub record Asked (S : Sheet) (may : ℕ → Bool) (v : ℕ) (graph code : List ℕ) : Type 0 where
+pub record Asked (S : Sheet) (may : ℕ → Bool) (v : ℕ) (graph : List ℕ) (code : List Code) : Type 0 where
   pub well : WellFormed S
   pub tabled : Tabled S graph
   pub node : v < size S
   pub logic : logic_node S v ≡ true
-  pub below : (u : ℕ) → u < v → get_or code u 0 ≡ code_for (logic_node S u) (may u)
-  pub own : get_or code v 0 ≡ 0
+  pub below : (u : ℕ) → u < v → get_or code u Inner ≡ code_for (logic_node S u) (may u)
+  pub own : get_or code v Inner ≡ Inner

@@ -7,17 +7,18 @@ ghost use Rattle.cut.specs.Quick.{inside_mark, InsideMarked, AllLeaves};
 
 use crate::search_cut;
 use cone::cut_fits;
+use flow::Code;
 use rows::Graph;
 
 // Whether a node must be inside, by its code.
-fn inside_mark(code: u8) -> bool
+fn inside_mark(code: Code) -> bool
     ensures { result ≡ inside_mark code }
 {
-    code == 0
+    code == Code::Inner
 }
 
 // Marks the nodes below v that must be inside.
-fn mark_inside(code: &[u8; 256], marks: &mut [bool; 256], v: u32)
+fn mark_inside(code: &[Code; 256], marks: &mut [bool; 256], v: u32)
     requires { v < 256 }
     ensures { InsideMarked code.now marks.new v }
 {
@@ -28,12 +29,12 @@ fn mark_inside(code: &[u8; 256], marks: &mut [bool; 256], v: u32)
 }
 
 // Whether each of the first `count` ids may be a leaf, where none of them must be inside.
-fn all_leaves(code: &[u8; 256], cut: &[u32; 8], count: u32) -> bool
+fn all_leaves(code: &[Code; 256], cut: &[u32; 8], count: u32) -> bool
     requires { count < 8 }
     ensures { result ≡ true → AllLeaves code.now cut.now count }
 {
     for j in 0..count as usize {
-        if cut[j] > 255 || code[cut[j] as usize] == 4 {
+        if cut[j] > 255 || code[cut[j] as usize] == Code::Barred {
             return false;
         }
     }
@@ -41,7 +42,7 @@ fn all_leaves(code: &[u8; 256], cut: &[u32; 8], count: u32) -> bool
 }
 
 // Writes an allowed cut of v with at most k leaves; how many it has, or none where there is none.
-pub fn ask(graph: &Graph, code: &[u8; 256], cut: &mut [u32; 8], v: u32, k: u32) -> Option<u32>
+pub fn ask(graph: &Graph, code: &[Code; 256], cut: &mut [u32; 8], v: u32, k: u32) -> Option<u32>
     requires falling { Falling graph.now }
     requires v_bound { (v < 256) × (k < 8) }
     ensures most { IfSome result (λ count. count ≤ k) }

@@ -17,9 +17,10 @@ use Rattle.flow.specs.Search.{Closed, Inside, Link, Flow, bit, gate, count, Push
 use Rattle.flow.proofs.Bools.{bool, differ}
 use Rattle.flow.proofs.Laws.{link-under, under-self}
 use Rattle.flow.proofs.Sums.{sum, sum-ext, sum-le, sum-add, sum_one, gate-add, gate-zero, gate-one, hits, hits-sum, hits-count, sum-count, count-sum}
+use Rattle.flow.specs.declared.Code.{Code}
 
 -- the empty flow
-pub valued-none : (graph code above : List ℕ) (v : ℕ) → length above ≡ 256 → ((i : ℕ) → i < 256 → cell above i ≡ i) → Valued graph code above v 0
+pub valued-none : (graph : List ℕ) (code : List Code) (above : List ℕ) (v : ℕ) → length above ≡ 256 → ((i : ℕ) → i < 256 → cell above i ≡ i) → Valued graph code above v 0
 valued-none graph code above v len self = record {
   flow = record {
     above-len = len;
@@ -37,7 +38,7 @@ valued-none graph code above v len self = record {
 }
 
 -- one unit more
-pub valued-more : {graph code s above above' : List ℕ} {v k : ℕ} → Valued graph code above v k → Pushed graph code s above above' v → Valued graph code above' v (k + 1)
+pub valued-more : {graph : List ℕ} {code : List Code} {s : List Bool} {above above' : List ℕ} {v k : ℕ} → Valued graph code above v k → Pushed graph code s above above' v → Valued graph code above' v (k + 1)
 valued-more {v = v} {k = k} f p = record { flow = p.flow; once = λ u lt n. let a = p.more u lt n in let b = f.once u lt n in let c = step (eqb v u) in omega arith }
   where
     step : (b : Bool) → gate b (k + 1) ≡ gate b k + bit b
@@ -45,7 +46,7 @@ valued-more {v = v} {k = k} f p = record { flow = p.flow; once = λ u lt n. let 
     step false = refl
 
 -- a flow that names each node u that some closed set holds 1 + w u times
-module _ (graph code above : List ℕ) (w : ℕ → ℕ) (flow : Flow graph code above) (once : (u : ℕ) → u < 256 → Inside graph code u → count u above ≡ 1 + w u) (C : ℕ → Bool) (closed : Closed graph code C) where
+module _ (graph : List ℕ) (code : List Code) (above : List ℕ) (w : ℕ → ℕ) (flow : Flow graph code above) (once : (u : ℕ) → u < 256 → Inside graph code u → count u above ≡ 1 + w u) (C : ℕ → Bool) (closed : Closed graph code C) where
   each : (p : ℕ) → p < 256 → gate (C p) (count p above) ≡ bit (C p) + gate (C p) (w p)
   each p lt = ⊎_elim
       (λ t. let o = once p lt (record { members = C; closed = closed; holds = t }) in let a = ap (λ (b : Bool). gate b (count p above)) t in let b = ap bit t in let c = ap (λ (b : Bool). gate b (w p)) t in omega arith)
@@ -112,7 +113,7 @@ two-sources C v k x root low t u =
     omega arith
 
 -- weak duality: no closed set for v has fewer leaves than a flow from v has units
-pub units-least : {graph code above : List ℕ} {v f : ℕ} → v < 256 → Valued graph code above v f → (C : ℕ → Bool) → Closed graph code C → C v ≡ true
+pub units-least : {graph : List ℕ} {code : List Code} {above : List ℕ} {v f : ℕ} → v < 256 → Valued graph code above v f → (C : ℕ → Bool) → Closed graph code C → C v ≡ true
     → (g : ℕ → ℕ) → ((x : ℕ) → x < 256 → Leaf graph C x → 1 ≤ g x) → f ≤ sum g 256
 units-least {graph} {code} {above} {v} {f} low value C closed root g all =
     let l = lower graph code above (λ u. gate (eqb v u) f) value.flow value.once C closed g all in
@@ -121,7 +122,7 @@ units-least {graph} {code} {above} {v} {f} low value C closed root g all =
 
 -- The same with one more source. A search from x that succeeds makes a flow of f units from v and one from x. A closed set that holds both then has
 -- f + 1 names more than members, and so at least f + 1 leaves: x is in none that has only f.
-pub exclude : {graph code s above above' : List ℕ} {v f x : ℕ} → v < 256 → x < 256 → Valued graph code above v f → Pushed graph code s above above' x → Excluded graph code v f x
+pub exclude : {graph : List ℕ} {code : List Code} {s : List Bool} {above above' : List ℕ} {v f x : ℕ} → v < 256 → x < 256 → Valued graph code above v f → Pushed graph code s above above' x → Excluded graph code v f x
 unfolding Excluded
 exclude {graph} {code} {s} {above} {above'} {v} {f} {x} root low value p C closed t u L all =
     let l = lower graph code above' (λ u. gate (eqb v u) f + bit (eqb x u)) p.flow (λ u lt i. let a = p.more u lt i in let b = value.once u lt i in omega arith) C closed (λ y. count y L) all in

@@ -7,45 +7,47 @@
 use mathlib.Core.Path.{◌≡◌, sym, ap, ◌∙◌, subst}
 use mathlib.Core.Logic.{◌⊎◌, inl, inr, ⊎_elim}
 use mathlib.Core.List.{List}
-use mathlib.Core.Bool.{true, false, not, ◌&&◌}
+use mathlib.Core.Bool.{Bool, true, false, not, ◌&&◌}
 use Prim.Native.Nat.{ℕ, ◌+◌, ◌≤◌, ◌<◌}
 use native.Mathlib.Decide.{ℕ_discrete}
 use native.Mathlib.Omega.{arith}
-use lib.ListN.{length}
+use lib.ListN.{length, get_or}
 use lib.Dec.{eqb}
 use Rattle.maps.proofs.Over.{same_test}
 use Rattle.rows.specs.Table.{count_in, operand_in, Falling}
 use Rattle.rows.specs.Cells.{cell}
-use Rattle.flow.specs.Search.{Leafy, Closed, Touch, Link, Flow, bit, gate, count, Seen, Entered, OutDone, Blocked, Valued, Settled, Leaf, some?, member, leaf_mark, rising}
-use Rattle.flow.proofs.Bools.{differ, out-yes, out-no}
-use Rattle.flow.proofs.Marks.{some-yes, some-no, member-yes, member-no}
-use Rattle.flow.proofs.Laws.{done-grows}
+use Rattle.flow.specs.Search.{Leafy, Closed, Touch, Link, Flow, bit, gate, count, Seen, Entered, OutDone, Blocked, Valued, Settled, Leaf, member, leaf_mark, rising}
+use Rattle.flow.proofs.Bools.{bool, differ, out-yes, out-no}
+use Rattle.flow.proofs.Marks.{member-yes, member-no}
+use Rattle.flow.proofs.Laws.{inner?, done-grows}
 use Rattle.flow.proofs.Sums.{sum, sum-ext, length-rising, rising-bit}
 use Rattle.flow.proofs.Duality.{crossing, one-source}
+use Rattle.flow.specs.declared.Code.{Code}
+use Rattle.flow.specs.declared.Code.TheVariants.{Inner}
 
 -- the first search
-pub settle-first : {graph code s s' above above' : List ℕ} {v f : ℕ} → ((i : ℕ) → cell s i ≡ 0) → Blocked graph code s s' above above' → Valued graph code above v f → Seen s' v → Settled graph code s' above' v f
+pub settle-first : {graph : List ℕ} {code : List Code} {s s' : List Bool} {above above' : List ℕ} {v f : ℕ} → ((i : ℕ) → i < 512 → get_or s i false ≡ false) → Blocked graph code s s' above above' → Valued graph code above v f → Seen s' v → Settled graph code s' above' v f
 settle-first {graph} {code} {s} {s'} {above} {above'} {v} {f} clear b value root = subst (λ (l : List ℕ). Settled graph code s' l v f) (sym b.same)
-    (record { value = value; root = root; done = λ u lt n. b.done.out u lt (clear u) n; inn = λ u lt n. b.done.inn u lt (clear (u + 256)) n })
+    (record { value = value; root = root; done = λ u lt n. b.done.out u lt (clear u (omega arith)) n; inn = λ u lt n. b.done.inn u lt (clear (u + 256) (omega arith)) n })
 
 -- a failed search from another node adds its marks
-pub settle-more : {graph code s s' above above' : List ℕ} {v f : ℕ} → Settled graph code s above v f → Blocked graph code s s' above above' → Settled graph code s' above v f
+pub settle-more : {graph : List ℕ} {code : List Code} {s s' : List Bool} {above above' : List ℕ} {v f : ℕ} → Settled graph code s above v f → Blocked graph code s s' above above' → Settled graph code s' above v f
 settle-more {graph} {code} {s} {s'} {above} {above'} {v} {f} t b = record {
   value = t.value;
   root = b.grow v t.root;
-  done = λ u lt n. out u lt n (ℕ_discrete (cell s u) 0);
-  inn = λ u lt n. inn u lt n (ℕ_discrete (cell s (u + 256)) 0);
+  done = λ u lt n. out u lt n (bool (get_or s u false));
+  inn = λ u lt n. inn u lt n (bool (get_or s (u + 256) false));
 }
   where
-    out : (u : ℕ) → u < 256 → Seen s' u → Dec (cell s u ≡ 0) → OutDone graph code s' above u
-    out u lt n (yes z) = b.done.out u lt z n
-    out u lt n (no g) = done-grows graph code s s' above u b.grow (t.done u lt g)
+    out : (u : ℕ) → u < 256 → Seen s' u → Seen s u ⊎ (get_or s u false ≡ false) → OutDone graph code s' above u
+    out u lt n (inr z) = b.done.out u lt z n
+    out u lt n (inl g) = done-grows graph code s s' above u b.grow (t.done u lt g)
 
-    inn : (u : ℕ) → u < 256 → Seen s' (u + 256) → Dec (cell s (u + 256) ≡ 0) → Seen s' (cell above u)
-    inn u lt n (yes z) = b.done.inn u lt z n
-    inn u lt n (no g) = b.grow (cell above u) (t.inn u lt g)
+    inn : (u : ℕ) → u < 256 → Seen s' (u + 256) → Seen s (u + 256) ⊎ (get_or s (u + 256) false ≡ false) → Seen s' (cell above u)
+    inn u lt n (inr z) = b.done.inn u lt z n
+    inn u lt n (inl g) = b.grow (cell above u) (t.inn u lt g)
 
-module _ {graph code s above : List ℕ} {v f : ℕ} (falling : Falling graph) (low-v : v < 256) (t : Settled graph code s above v f) where
+module _ {graph : List ℕ} {code : List Code} {s : List Bool} {above : List ℕ} {v f : ℕ} (falling : Falling graph) (low-v : v < 256) (t : Settled graph code s above v f) where
   fl : Flow graph code above
   fl = t.value.flow
 
@@ -57,9 +59,9 @@ module _ {graph code s above : List ℕ} {v f : ℕ} (falling : Falling graph) (
 
   pub settled-closed : Closed graph code (member s)
   unfolding Closed Entered
-  settled-closed m h = ((member-no s m h).0, (taken m h).inside, λ j lt. go j lt (ℕ_discrete (cell code (operand_in graph m j)) 0))
+  settled-closed m h = ((member-no s m h).0, (taken m h).inside, λ j lt. go j lt (inner? (get_or code (operand_in graph m j) Inner)))
     where
-      go : (j : ℕ) → j < count_in graph m → Dec (cell code (operand_in graph m j) ≡ 0) → (member s (operand_in graph m j) ≡ true) ⊎ Leafy code (operand_in graph m j)
+      go : (j : ℕ) → j < count_in graph m → Dec (get_or code (operand_in graph m j) Inner ≡ Inner) → (member s (operand_in graph m j) ≡ true) ⊎ Leafy code (operand_in graph m j)
       go j lt (yes z) = inl (member-yes s (operand_in graph m j) (operand_low m j (member-no s m h).0 lt) (((taken m h).operands j lt).0 z))
       go j lt (no g) = inr (g, ((taken m h).operands j lt).2)
 
@@ -86,12 +88,12 @@ module _ {graph code s above : List ℕ} {v f : ℕ} (falling : Falling graph) (
   unfolding Leaf Touch Entered
   leaf-mark x lt h =
       let e : Entered code s x = subst (λ (y : ℕ). Entered code s y) h.1.4 ((taken h.1.0 h.1.2).operands h.1.1 h.1.3) in
-      out-yes (member s x) (some? (cell s (x + 256))) h.0 (some-yes (cell s (x + 256)) (e.1 (λ z. differ (member s x) (member-yes s x lt (e.0 z)) h.0)))
+      out-yes (member s x) (get_or s (x + 256) false) h.0 (e.1 (λ z. differ (member s x) (member-yes s x lt (e.0 z)) h.0))
 
   pub mark-cross : (x : ℕ) → x < 256 → leaf_mark s x ≡ true → (not (member s x) && member s (cell above x)) ≡ true
   mark-cross x lt h =
-      let o = out-no (member s x) (some? (cell s (x + 256))) h in
-      out-yes (member s x) (member s (cell above x)) o.0 (entered x lt (some-no (cell s (x + 256)) o.1))
+      let o = out-no (member s x) (get_or s (x + 256) false) h in
+      out-yes (member s x) (member s (cell above x)) o.0 (entered x lt o.1)
 
   cross-mark : (x : ℕ) → x < 256 → (not (member s x) && member s (cell above x)) ≡ true → leaf_mark s x ≡ true
   cross-mark x lt h = let o = out-no (member s x) (member s (cell above x)) h in leaf-mark x lt (cross-leaf x lt o.0 o.1)

@@ -1,55 +1,62 @@
-// Augmenting paths. A question about a logic node v gives each node below v a code (`code_for` of the crate `cut`), and v itself the code 0.
+// Augmenting paths. A question about a logic node v gives each node below v a code, and v itself the code of a node that must be inside.
 // A unit of flow goes from v down through nodes that are inside, and leaves at a leaf; each leaf carries one unit. `above[x]` is the node
 // from which x is reached with a unit, or x where it carries none. `seen` marks what a search has met: at u that u is inside, at u + 256
 // that u was entered from above.
 #![tactic(auto)]
 
-ghost use Rattle.std.specs.Prelude.{◌≡◌, ◌⊎◌, ℕ, ◌+◌, ◌<◌, ◌≤◌, IfSome, unwrap_or};
+ghost use Rattle.std.specs.Prelude.{◌≡◌, ◌⊎◌, ℕ, ◌+◌, ◌<◌, ◌≤◌, IfSome, unwrap_or, get_or};
 ghost use Rattle.rows.specs.Cells.{cell};
 ghost use Rattle.rows.specs.Table.{count_in, operand_in, Falling};
+ghost use Rattle.flow.specs.declared.Code.TheVariants.{Inner};
 ghost use Rattle.flow.specs.Search.{Startable, Under, Link, Searched, Seen, Entered, Augmented};
 
 use rows::{Graph, count_in, operand_in};
+
+// What a question lets a node be: inside alone; inside or a leaf; a leaf alone; or neither.
+#[derive(Clone, Copy, Debug, PartialEq, Eq)]
+pub enum Code {
+    Inner,
+    Either,
+    Outer,
+    Barred,
+}
 
 // Searches on from p, which is inside, for a unit that leaves `from`: down to the operands of p, then back along the unit that p carries.
 #[cycle(enter_expand_scan)]
 pub fn expand(
     graph: &Graph,
-    code: &[u8; 256],
-    seen: &mut [u8; 512],
+    code: &[Code; 256],
+    seen: &mut [bool; 512],
     above: &mut [u32; 256],
     p: u32,
     from: u32,
 ) -> bool
     requires startable { Startable graph.now code.now seen.old above.old p from }
     requires under { Under graph.now code.now from p }
-    requires fact { (p ≡ from) ⊎ (cell code.now p ≡ 0) }
+    requires fact { (p ≡ from) ⊎ (get_or code.now p Inner ≡ Inner) }
     ensures { Searched result graph.now code.now seen.old seen.new above.old above.new from
         (Seen seen.new p) }
 {
     let i = p as usize;
-    if code[i] >= 3 {
-        return true;
+    match code[i] {
+        Code::Outer | Code::Barred => true,
+        Code::Inner | Code::Either => {
+            if seen[i] {
+                return false;
+            }
+            seen[i] = true;
+            scan(graph, code, seen, above, p, from)
+                || above[i] != p && enter(graph, code, seen, above, p, p)
+        }
     }
-    if seen[i] != 0 {
-        return false;
-    }
-    seen[i] = 1;
-    if scan(graph, code, seen, above, p, from) {
-        return true;
-    }
-    if above[i] == p {
-        return false;
-    }
-    enter(graph, code, seen, above, p, p)
 }
 
 // Enters the operands of p.
 #[cycle(enter_expand_scan)]
 fn scan(
     graph: &Graph,
-    code: &[u8; 256],
-    seen: &mut [u8; 512],
+    code: &[Code; 256],
+    seen: &mut [bool; 512],
     above: &mut [u32; 256],
     p: u32,
     from: u32,
@@ -71,8 +78,8 @@ fn scan(
 #[cycle(enter_expand_scan)]
 fn enter(
     graph: &Graph,
-    code: &[u8; 256],
-    seen: &mut [u8; 512],
+    code: &[Code; 256],
+    seen: &mut [bool; 512],
     above: &mut [u32; 256],
     x: u32,
     from: u32,
@@ -83,27 +90,23 @@ fn enter(
         (Entered code.now seen.new x) }
 {
     let i = x as usize;
-    let c = code[i];
-    if c == 4 {
-        return true;
-    }
-    if c == 0 {
-        if seen[i] != 0 {
-            return false;
+    match code[i] {
+        Code::Barred => true,
+        Code::Inner => !seen[i] && expand(graph, code, seen, above, x, from),
+        Code::Either | Code::Outer => {
+            let m = i + 256;
+            if seen[m] {
+                return false;
+            }
+            seen[m] = true;
+            let q = above[i];
+            if expand(graph, code, seen, above, q, q) {
+                above[i] = from;
+                return true;
+            }
+            false
         }
-        return expand(graph, code, seen, above, x, from);
     }
-    let m = i + 256;
-    if seen[m] != 0 {
-        return false;
-    }
-    seen[m] = 1;
-    let q = above[i];
-    if expand(graph, code, seen, above, q, q) {
-        above[i] = from;
-        return true;
-    }
-    false
 }
 
 // The empty flow: each node names itself.
@@ -118,8 +121,8 @@ fn start(above: &mut [u32; 256])
 // Sends units from v along augmenting paths, until a search fails; the number of units then, or none where k + 1 units flow.
 pub fn augment(
     graph: &Graph,
-    code: &[u8; 256],
-    seen: &mut [u8; 512],
+    code: &[Code; 256],
+    seen: &mut [bool; 512],
     above: &mut [u32; 256],
     v: u32,
     k: u32,
@@ -131,7 +134,7 @@ pub fn augment(
 {
     start(above);
     for units in 0..=k {
-        *seen = [0; 512];
+        *seen = [false; 512];
         if !expand(graph, code, seen, above, v, v) {
             return Some(units);
         }

@@ -27,6 +27,8 @@ use Rattle.bound.specs.Lookup.{Beside}
 use Rattle.bound.specs.Going.{Keeps}
 use Rattle.level.specs.Cuts.{TriedCut, FitTest, Lowest}
 use Rattle.level.proofs.CutRows.{row-beside}
+use Rattle.flow.specs.declared.Code.{Code}
+use Rattle.flow.specs.declared.Code.TheVariants.{Inner}
 
 -- ---- the first of the numbers 0, 1, .. that passes a test
 
@@ -51,18 +53,18 @@ keep-first p (suc n) r l h e = go (λ m. keep-first p n r m h e) (last_or r n l)
 -- ---- one node
 
 -- the open codes below u are written
-pub record OpenTo (graph code : List ℕ) (v u : ℕ) : Type 0 where
+pub record OpenTo (graph : List ℕ) (code : List Code) (v u : ℕ) : Type 0 where
   pub wide : length code ≡ 256
-  pub codes : (i : ℕ) → i < u → get_or code i 0 ≡ code_for (is_logic (kind_at graph i)) true
-  pub own : get_or code v 0 ≡ 0
+  pub codes : (i : ℕ) → i < u → get_or code i Inner ≡ code_for (is_logic (kind_at graph i)) true
+  pub own : get_or code v Inner ≡ Inner
 
-pub open_none : (graph : List ℕ) (v : ℕ) → v < 256 → OpenTo graph (replicate 256 0) v 0
+pub open_none : (graph : List ℕ) (v : ℕ) → v < 256 → OpenTo graph (replicate 256 Inner) v 0
 open_none graph v l =
-    record { wide = length-replicate {A = ℕ} 256 0; codes = λ i m. absurd (not-suc-le-zero m); own = get_or-replicate {A = ℕ} 256 v 0 0 l }
+    record { wide = length-replicate {A = Code} 256 Inner; codes = λ i m. absurd (not-suc-le-zero m); own = get_or-replicate {A = Code} 256 v Inner Inner l }
 
 -- under open codes every fitting cut is allowed
-pub fit-tried : (S : Sheet) (graph code : List ℕ) (v k : ℕ) (kept : List ℕ) (r : Bool) → v < 256 → is_logic (kind_at graph v) ≡ true
-    → ((u : ℕ) → u < v → get_or code u 0 ≡ code_for (is_logic (kind_at graph u)) true) → get_or code v 0 ≡ 0
+pub fit-tried : (S : Sheet) (graph : List ℕ) (code : List Code) (v k : ℕ) (kept : List ℕ) (r : Bool) → v < 256 → is_logic (kind_at graph v) ≡ true
+    → ((u : ℕ) → u < v → get_or code u Inner ≡ code_for (is_logic (kind_at graph u)) true) → get_or code v Inner ≡ Inner
     → ((S : Sheet) (may : ℕ → Bool) → Asked S may v graph code → TriedCut S may v k kept r) → FitTest S graph v k kept r
 fit-tried S graph code v k kept r l one below own tried =
     record { test = λ well tabled lt e. go well e (asked well tabled lt) r (tried S (λ u. true) (asked well tabled lt)) }

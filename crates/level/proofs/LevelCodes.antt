@@ -4,8 +4,9 @@ use mathlib.Core.Path.{◌≡◌, refl, sym, subst, ap, ◌∙◌}
 use mathlib.Core.Bool.{Bool, true, false}
 use mathlib.Core.List.{List}
 use native.Mathlib.Omega.{arith}
-use lib.ListN.{length, get_or, set}
-use lib.Seq.{get_or-set_other}
+use lib.ListN.{length, get_or, set, length-set}
+use lib.Seq.{get_or-set_same, get_or-set_other}
+use borrow.Author.Count.{below_more}
 use Rattle.maps.specs.Label.{Label, leq, plus, ready, ◌≼◌}
 use Rattle.maps.specs.Sheet.{Sheet, is_logic, node, latency, clock_to_q}
 use Rattle.maps.specs.Cut.{cut}
@@ -15,42 +16,47 @@ use Rattle.rows.specs.Table.{kind_at, delay_in, latency_in, clock_in}
 use Rattle.rows.specs.declared.Header as R
 use Rattle.rows.proofs.SheetTables.{kind-tabled}
 use Rattle.cut.specs.Question.{code_for, Asked}
-use Rattle.rows.proofs.Cells.{filled_more}
 use Rattle.maps.specs.Legal.{arrives}
 use Rattle.relax.proofs.Forced.{leaf-read}
 use Rattle.bound.specs.Lookup.{label_in, arrival_in}
 use Rattle.level.specs.Carry.{CodesBy, Placed}
 use Rattle.level.specs.Cuts.{TriedCut}
 use Rattle.level.specs.Span.{TriedLevel}
+use Rattle.flow.specs.declared.Code.{Code}
+use Rattle.flow.specs.declared.Code.TheVariants.{Inner}
 
 module _ (graph steps levels : List ℕ) (v top : ℕ) (a : Label) where
   -- u arrives at v by a
   abbrev pub in_time : ℕ → Bool
   in_time u = leq (arrival_in graph steps levels top (delay_in graph v) u) a
 
-  abbrev pub code_by : ℕ → ℕ
+  abbrev pub code_by : ℕ → Code
   code_by u = code_for (is_logic (kind_at graph u)) (in_time u)
 
-  -- the codes of the nodes below u stand, and that of v is 0
-  pub record Coded (code : List ℕ) (u : ℕ) : Type 0 where
-    pub done : (i : ℕ) → i < u → get_or code i 0 ≡ code_by i
-    pub own : get_or code v 0 ≡ 0
+  -- the codes of the nodes below u stand, and v must be inside
+  pub record Coded (code : List Code) (u : ℕ) : Type 0 where
+    pub wide : length code ≡ 256
+    pub done : (i : ℕ) → i < u → get_or code i Inner ≡ code_by i
+    pub own : get_or code v Inner ≡ Inner
 
-pub code_is : (graph steps levels : List ℕ) (v top u delay r : ℕ) (a : Label) → delay ≡ delay_in graph v
+pub code_is : (graph steps levels : List ℕ) (v top u delay : ℕ) (r : Code) (a : Label) → delay ≡ delay_in graph v
     → r ≡ code_for (is_logic (kind_at graph u)) (leq (arrival_in graph steps levels top delay u) a) → r ≡ code_by graph steps levels v top a u
 code_is graph steps levels v top u delay r a d e = e ∙ ap (λ (n : ℕ). code_for (is_logic (kind_at graph u)) (leq (arrival_in graph steps levels top n u) a)) d
 
-module _ {graph steps levels : List ℕ} {v top : ℕ} {a : Label} {code : List ℕ} where
-  pub coded_none : get_or code v 0 ≡ 0 → Coded graph steps levels v top a code 0
-  coded_none h = record { done = λ i l. absurd (omega arith); own = h }
+module _ {graph steps levels : List ℕ} {v top : ℕ} {a : Label} {code : List Code} where
+  pub coded_none : length code ≡ 256 → get_or code v Inner ≡ Inner → Coded graph steps levels v top a code 0
+  coded_none w h = record { wide = w; done = λ i l. absurd (omega arith); own = h }
 
-  pub coded-more : {u r : ℕ} → u < v → u < length code → r ≡ code_by graph steps levels v top a u → Coded graph steps levels v top a code u
+  pub coded-more : {u : ℕ} {r : Code} → u < v → v < 256 → r ≡ code_by graph steps levels v top a u → Coded graph steps levels v top a code u
       → Coded graph steps levels v top a (set code u r) (u + 1)
-  coded-more {u} {r} l m e h =
+  coded-more {u} {r} l w e h =
+      let m : u < length code = omega (arith, h.wide) in
       record {
-        done = subst (λ (x : ℕ). (i : ℕ) → i < u + 1 → get_or (set code u x) i 0 ≡ code_by graph steps levels v top a i) (sym e)
-            (filled_more (code_by graph steps levels v top a) code u m h.done);
-        own = get_or-set_other code u v r 0 (λ z. omega arith) ∙ h.own;
+        wide = length-set code u r ∙ h.wide;
+        done = below_more (λ i. get_or (set code u r) i Inner ≡ code_by graph steps levels v top a i) u
+            (λ i b. get_or-set_other code u i r Inner (λ z. omega arith) ∙ h.done i b)
+            (get_or-set_same code u r Inner m ∙ e);
+        own = get_or-set_other code u v r Inner (λ z. omega arith) ∙ h.own;
       }
 
 module _ {S : Sheet} {graph : List ℕ} {v : ℕ} {limits : R.Header} (placed : Placed S graph v limits) where
@@ -69,7 +75,7 @@ module _ {S : Sheet} {graph : List ℕ} {v : ℕ} {limits : R.Header} (placed : 
         ∙ ap (λ (t : ℕ). plus t (ready (latency S u) (clock_to_q S u) a) (node S v).delay) placed.tops
 
     module _ (a : Label) where
-      pub asked_by : {code : List ℕ} → CodesBy graph steps levels code v limits.top a → Asked S (in_time graph steps levels v limits.top a) v graph code
+      pub asked_by : {code : List Code} → CodesBy graph steps levels code v limits.top a → Asked S (in_time graph steps levels v limits.top a) v graph code
       asked_by h =
           record {
             well = placed.well;

@@ -10,6 +10,8 @@ use Rattle.cut.specs.Question.{code_for}
 use Rattle.relax.specs.Guard.{Forced}
 use Rattle.bound.specs.Lookup.{label_in, arrival_in, Soon, count_of, leaf_of}
 use Rattle.bound.specs.Going.{Keeps}
+use Rattle.flow.specs.declared.Code.{Code}
+use Rattle.flow.specs.declared.Code.TheVariants.{Inner}
 
 -- the table of nodes holds the logic node v; the limits are K and T
 pub record Placed (S : Sheet) (graph : List ℕ) (v : ℕ) (limits : R.Header) : Type 0 where
@@ -28,9 +30,9 @@ pub record Leaves (graph steps kept : List ℕ) (v : ℕ) : Type 0 where
   pub soon : (j : ℕ) → j < count_of kept v → Soon graph steps (leaf_of kept v j)
 
 -- the codes of the question which cuts of v carry the label a
-pub record CodesBy (graph steps levels code : List ℕ) (v top : ℕ) (a : Label) : Type 0 where
-  pub below : (u : ℕ) → u < v → get_or code u 0 ≡ code_for (is_logic (kind_at graph u)) (leq (arrival_in graph steps levels top (delay_in graph v) u) a)
-  pub own : get_or code v 0 ≡ 0
+pub record CodesBy (graph steps levels : List ℕ) (code : List Code) (v top : ℕ) (a : Label) : Type 0 where
+  pub below : (u : ℕ) → u < v → get_or code u Inner ≡ code_for (is_logic (kind_at graph u)) (leq (arrival_in graph steps levels top (delay_in graph v) u) a)
+  pub own : get_or code v Inner ≡ Inner
 
 -- the leaves of v's kept cut arrive by a
 abbrev pub Arrive : (graph steps levels kept : List ℕ) (v top : ℕ) → Label → Type 0

@@ -2,11 +2,13 @@
 ghost use Rattle.std.specs.Prelude.{◌≡◌, Bool, true, false, ℕ, ◌<◌, ◌≤◌, IfSome, unwrap_or, get_or, length, replicate, take};
 ghost use Rattle.maps.specs.Sheet.{Sheet, is_logic};
 ghost use Rattle.rows.specs.Table.{kind_at, Falling};
+ghost use Rattle.flow.specs.declared.Code.TheVariants.{Inner};
 ghost use Rattle.cut.specs.Question.{code_for, Asked};
 ghost use Rattle.bound.specs.Lookup.{count_of, leaf_of, Beside};
 ghost use Rattle.level.specs.Cuts.{Stored, TriedCut, FitTest, Lowest};
 
 use cut::{ask, code_for};
+use flow::Code;
 use rows::{Graph, kind_in};
 use std::marker::Model;
 use types::Kind;
@@ -93,7 +95,7 @@ impl Cuts {
 }
 
 // Seeks an allowed cut of v with at most k leaves, and keeps it.
-pub fn try_cut(graph: &Graph, code: &[u8; 256], kept: &mut Cuts, v: u32, k: u32) -> bool
+pub fn try_cut(graph: &Graph, code: &[Code; 256], kept: &mut Cuts, v: u32, k: u32) -> bool
     requires falling { Falling graph.now }
     requires v_bound { (v < 256) × (k ≤ 7) }
     ensures tried_cut { (S : Sheet) (may : ℕ → Bool) → Asked S may v graph.now code.now → TriedCut S may v k kept.new result }
@@ -113,12 +115,12 @@ pub fn try_cut(graph: &Graph, code: &[u8; 256], kept: &mut Cuts, v: u32, k: u32)
 }
 
 // The codes of the question about v under which every node below it may be a leaf.
-pub fn open_codes(graph: &Graph, code: &mut [u8; 256], v: u32)
+pub fn open_codes(graph: &Graph, code: &mut [Code; 256], v: u32)
     requires { v < 256 }
-    ensures by_index { (u : ℕ) → u < v → get_or code.new u 0 ≡ code_for (is_logic (kind_at graph.now u)) true }
-    ensures v_after { get_or code.new v 0 ≡ 0 }
+    ensures by_index { (u : ℕ) → u < v → get_or code.new u Inner ≡ code_for (is_logic (kind_at graph.now u)) true }
+    ensures v_after { get_or code.new v Inner ≡ Inner }
 {
-    *code = [0; 256];
+    *code = [Code::Inner; 256];
     for u in 0..v {
         code[u as usize] = code_for(kind_in(graph, u), true);
     }
@@ -136,7 +138,7 @@ pub fn has_cut(graph: &Graph, kept: &mut Cuts, v: u32, k: u32) -> bool
     match kind_in(graph, v) {
         Kind::Input | Kind::Box { .. } => true,
         Kind::Logic => {
-            let mut code = [0u8; 256];
+            let mut code = [Code::Inner; 256];
             open_codes(graph, &mut code, v);
             try_cut(graph, &code, kept, v, k)
         }

@@ -15,6 +15,7 @@ ghost use Rattle.level.specs.Span.{TriedLevel, Narrowed, Levelled};
 use crate::cuts::{Cuts, try_cut};
 use bound::{Labels, level_in};
 use cut::code_for;
+use flow::Code;
 use rows::{Graph, Header, delay_in, kind_in};
 use types::{Label, Level, Step};
 
@@ -56,7 +57,7 @@ pub fn carried(graph: &Graph, labels: &Labels, kept: &Cuts, v: u32, top: Level, 
 }
 
 // The code of u in the question which cuts of a node of the given delay carry a label.
-pub fn code_of(graph: &Graph, labels: &Labels, u: u32, delay: Level, top: Level, by: Label) -> u8
+pub fn code_of(graph: &Graph, labels: &Labels, u: u32, delay: Level, top: Level, by: Label) -> Code
     requires u_bound { u < 256 }
     requires soon { Soon graph.now labels.now.steps u }
     ensures { result ≡ code_for (is_logic (kind_at graph.now u)) (leq (arrival_in graph.now labels.now.steps labels.now.levels top.0 delay.0 u) (label_of by)) }
@@ -66,12 +67,12 @@ pub fn code_of(graph: &Graph, labels: &Labels, u: u32, delay: Level, top: Level,
 }
 
 // The codes of the question which cuts of v carry a label.
-pub fn codes(graph: &Graph, labels: &Labels, code: &mut [u8; 256], v: u32, top: Level, by: Label)
+pub fn codes(graph: &Graph, labels: &Labels, code: &mut [Code; 256], v: u32, top: Level, by: Label)
     requires v_bound { v < 256 }
     requires by_index { (u : ℕ) → u < v → Soon graph.now labels.now.steps u }
     ensures { CodesBy graph.now labels.now.steps labels.now.levels code.new v top.0 (label_of by) }
 {
-    *code = [0; 256];
+    *code = [Code::Inner; 256];
     let delay = delay_in(graph, v);
     for u in 0..v {
         code[u as usize] = code_of(graph, labels, u, delay, top, by);
@@ -94,7 +95,7 @@ pub fn try_level(
     ensures beside { Beside v kept.old kept.new }
     ensures kept_unchanged { result ≡ false → kept.new ≡ kept.old }
 {
-    let mut code = [0u8; 256];
+    let mut code = [Code::Inner; 256];
     codes(graph, labels, &mut code, v, Level(limits.top), by);
     try_cut(graph, &code, kept, v, limits.leaves)
 }

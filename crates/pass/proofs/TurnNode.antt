@@ -10,14 +10,14 @@ use lib.ListN.{length, get_or}
 use borrow.Author.Tests.{eqb-true, eqb-false}
 use Rattle.maps.specs.Label.{Label, ◌≼◌}
 use Rattle.maps.specs.Lists.{All}
-use Rattle.maps.specs.Sheet.{Sheet, Kind, input, logic, box, Window, whole, window_in, node, size, window, is_logic}
+use Rattle.maps.specs.Sheet.{Sheet, Kind, input, logic, box, node, size, window, is_logic}
 use Rattle.maps.specs.Window.{between, open_label}
 use Rattle.maps.specs.Cut.{logic_node}
 use Rattle.maps.specs.WellFormed.{WellFormed}
 use Rattle.maps.proofs.Member.{All-of, All-ids, All-get}
 use Rattle.maps.proofs.Planned.{delays, operands-below, windows}
 use Rattle.maps.proofs.Windows.{next-fields}
-use Rattle.rows.specs.Table.{kind_at, delay_in, count_in, operand_in, open_in, closing, WholeIn}
+use Rattle.rows.specs.Table.{kind_at, delay_in, count_in, operand_in, open_in, closing}
 use Rattle.rows.specs.declared.Header as R
 use Rattle.rows.proofs.SheetTables.{kind-tabled}
 use Rattle.relax.specs.Guard.{Forced}
@@ -29,7 +29,7 @@ use Rattle.relax.proofs.Passes.{base-forced, base-level, base_step, settles-open
 use Rattle.bound.specs.Lookup.{label_in, arrival_in, Beside, step_limit}
 use Rattle.bound.specs.Bound.{Latest}
 use Rattle.bound.specs.Going.{Given, Keeps, AllKept, Going, Based}
-use Rattle.bound.proofs.Safety.{node_in, latency-is, clock-is, delay-is, no-entries, graph-falls, soon-all}
+use Rattle.bound.proofs.Safety.{node_in, latency-is, clock-is, delay-is, graph-falls, soon-all}
 use Rattle.bound.proofs.Arriving.{arrival-small}
 use Rattle.level.specs.Carry.{Placed}
 use Rattle.level.proofs.CutRows.{count-beside, leaf-beside}
@@ -79,15 +79,6 @@ module _ {S : Sheet} {graph differences : List ℕ} {limits : R.Header} {first n
       }
 
   module _ {bound : ℕ → ℕ} (p : Pass S bound (label_in steps levels) v) {a : Label} (based : Based S (label_in steps levels) v a) where
-    pub based-level : a.level ≤ limits.top
-    based-level =
-        omega (
-          arith,
-          ap (λ (c : Label). c.level) based.base,
-          (base-level S closed (delays S g.well) (label_in steps levels) v inside p based.step based.asks).high,
-          g.top,
-        )
-
     arrival-is : (u : ℕ) → u < limits.nodes → arrival_in graph steps levels limits.top (delay_in graph v) u ≡ arrives S (label_in steps levels) v u
     unfolding arrival_in
     arrival-is u k = rw (g.top, latency-is g u k, clock-is g u k, delay-is g v l)
@@ -130,13 +121,6 @@ module _ {S : Sheet} {graph differences : List ℕ} {limits : R.Header} {first n
               ap (λ (c : Label). c.step) w.2,
               arrival-small graph steps levels limits.top (delay_in graph v) (operand_in graph v w.0) (soon-all g going.timed (operand_in graph v w.0) (omega arith)),
             )
-
-    -- without entries every window is whole
-    pub whole-window : limits.windows ≡ 0 → WholeIn graph limits.period v
-    whole-window e =
-        let t = (node_in g v l).1 in
-        let w : window S v ≡ whole S.period v = ap (window_in S.period v) (no-entries g e) in
-        (g.tabled.opens v t ∙ ap (λ (x : Window). x.from) w, rw g.period (g.tabled.closes v t ∙ ap (λ (x : Window). x.to) w))
 
     -- the window in the table is the node's
     opened-is : (r : Label) → open_label limits.period (between 0 (open_in graph v) (closing graph limits.period v)) (delay_in graph v) r

@@ -15,6 +15,7 @@ use Rattle.sheet.proofs.After.{Held}
 use Rattle.rows.proofs.SheetTables.{kind-tabled}
 use Rattle.cut.specs.Question.{code_for, AllowedCut, Asked, Fewest, Best}
 use Rattle.probe.specs.Probe.{allowed_in, Coded, Asks, Prepared, NoneWithin, HasCut, has, lacks, unasked, padded, CutAnswer, chosen, none, outside}
+use Rattle.flow.specs.declared.Code.{Code}
 
 -- an id below the header's count is a node of the sheet, and below 256
 module _ {bytes g d : List ℕ} {h : Header} {p w : ℕ} (held : Held bytes g d h p w) (v : ℕ) (l : v < h.nodes) where
@@ -43,7 +44,7 @@ module _ (bytes : List ℕ) (v k : ℕ) where
     pub no-logic : v < h.nodes → is_logic (kind_at graph v) ≡ false → (S : Sheet) → Asks bytes v k S → ⊥
     no-logic l n S a = clash (sym n ∙ kind v (small held v l) ∙ subst (λ (T : Sheet). logic_node T v ≡ true) (same held S a.reads) a.logic)
 
-    pub prepared : (allowed code : List ℕ) → v < h.nodes → is_logic (kind_at graph v) ≡ true → Coded graph allowed code v → k ≤ 6 → Prepared true bytes allowed v k graph code
+    pub prepared : (allowed : List ℕ) (code : List Code) → v < h.nodes → is_logic (kind_at graph v) ≡ true → Coded graph allowed code v → k ≤ 6 → Prepared true bytes allowed v k graph code
     prepared allowed code l one c few = (
       held.held,
       record { reads = held.reads; node = within held v l; logic = is_logic-v; small = few },
@@ -69,7 +70,7 @@ same-sheet bytes v k S R a b =
     cc
 
 -- the answers to a question about the sheet
-module _ (bytes allowed : List ℕ) (v k : ℕ) (graph code leaves : List ℕ) (p : Prepared true bytes allowed v k graph code) where
+module _ (bytes allowed : List ℕ) (v k : ℕ) (graph : List ℕ) (code : List Code) (leaves : List ℕ) (p : Prepared true bytes allowed v k graph code) where
   pub has_one : (r : ℕ) → r ≤ k → ((S : Sheet) (may : ℕ → Bool) → Asked S may v graph code → AllowedCut S may v (take r leaves)) → HasCut bytes allowed v k 1
   has_one r l h = has p.0 p.1 (take r leaves) (h p.0 (allowed_in allowed) p.2) (omega (arith, length-take r leaves)) refl
 

@@ -5,15 +5,17 @@ use Rattle.maps.specs.Cut.{logic_node}
 use Rattle.maps.specs.Read.{parse, sheet}
 use Rattle.rows.specs.Table.{kind_at, Falling}
 use Rattle.cut.specs.Question.{code_for, AllowedCut, Best, Asked}
+use Rattle.flow.specs.declared.Code.{Code}
+use Rattle.flow.specs.declared.Code.TheVariants.{Inner}
 
 -- u is allowed: its byte is not 0
 abbrev pub allowed_in : (allowed : List ℕ) → ℕ → Bool
 allowed_in allowed u = not (eqb (get_or allowed u 0) 0)
 
 -- the codes of the nodes below v, by their kind in the table and whether they are allowed, and of v
-pub record Coded (graph allowed code : List ℕ) (v : ℕ) : Type 0 where
-  pub below : (u : ℕ) → u < v → get_or code u 0 ≡ code_for (is_logic (kind_at graph u)) (allowed_in allowed u)
-  pub own : get_or code v 0 ≡ 0
+pub record Coded (graph allowed : List ℕ) (code : List Code) (v : ℕ) : Type 0 where
+  pub below : (u : ℕ) → u < v → get_or code u Inner ≡ code_for (is_logic (kind_at graph u)) (allowed_in allowed u)
+  pub own : get_or code v Inner ≡ Inner
 
 -- v is a logic node of the sheet in the bytes, and k is at most 6
 pub record Asks (bytes : List ℕ) (v k : ℕ) (S : Sheet) : Type 0 where
@@ -23,7 +25,7 @@ pub record Asks (bytes : List ℕ) (v k : ℕ) (S : Sheet) : Type 0 where
   pub small : k ≤ 6
 
 -- what a question that is answered rests on: the sheet's table and the codes; and a question outside the sheet
-abbrev pub Prepared : Bool → (bytes allowed : List ℕ) → (v k : ℕ) → (graph code : List ℕ) → Type 0
+abbrev pub Prepared : Bool → (bytes allowed : List ℕ) → (v k : ℕ) → (graph : List ℕ) (code : List Code) → Type 0
 Prepared true bytes allowed v k graph code = (S : Sheet) × Asks bytes v k S × Asked S (allowed_in allowed) v graph code × Falling graph
 Prepared false bytes allowed v k graph code = (S : Sheet) → Asks bytes v k S → ⊥
 

@@ -4,16 +4,17 @@ ghost use Rattle.rows.specs.Table.{no_nodes, no_differences};
 ghost use Rattle.probe.specs.Probe.{Coded, Prepared, HasCut, padded, CutAnswer};
 
 use cut::{ask, choose, code_for};
+use flow::Code;
 use rows::{Graph, Tables, kind_in};
 use sheet::read_sheet;
 use types::Kind;
 
 // The codes of the nodes below v, and of v.
-fn set_codes(graph: &Graph, allowed: &[u8; 256], code: &mut [u8; 256], v: u32)
+fn set_codes(graph: &Graph, allowed: &[u8; 256], code: &mut [Code; 256], v: u32)
     requires { v < 256 }
     ensures { Coded graph.now allowed.now code.new v }
 {
-    *code = [0; 256];
+    *code = [Code::Inner; 256];
     for u in 0..v {
         let i = u as usize;
         code[i] = code_for(kind_in(graph, u), allowed[i] != 0);
@@ -27,7 +28,7 @@ fn prepare(
     v: u32,
     k: u32,
     tables: &mut Tables,
-    code: &mut [u8; 256],
+    code: &mut [Code; 256],
 ) -> bool
     requires { (tables.old.graph ≡ no_nodes) × (tables.old.differences ≡ no_differences) }
     ensures { Prepared result sheet.now allowed.now v k tables.new.graph code.new }
@@ -62,7 +63,7 @@ pub fn maps_has_cut(sheet: &[u8], allowed: &[u8; 256], v: u32, k: u32) -> u32
     ensures { HasCut sheet.now allowed.now v k result }
 {
     let mut tables = Tables::EMPTY;
-    let mut code = [0u8; 256];
+    let mut code = [Code::Inner; 256];
     if !prepare(sheet, allowed, v, k, &mut tables, &mut code) {
         return 255;
     }
@@ -79,7 +80,7 @@ pub fn maps_cut(sheet: &[u8], allowed: &[u8; 256], v: u32, k: u32, list: &mut [u
     ensures { CutAnswer sheet.now allowed.now v k list.old result list.new }
 {
     let mut tables = Tables::EMPTY;
-    let mut code = [0u8; 256];
+    let mut code = [Code::Inner; 256];
     if !prepare(sheet, allowed, v, k, &mut tables, &mut code) {
         return 255;
     }

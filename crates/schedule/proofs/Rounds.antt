@@ -253,14 +253,6 @@ pub record Few (limits : R.Header) (steps rounds next : ℕ) : Type 0 where
   pub near : next ≤ rounds_most limits
   pub fits : next < 4294967296
 
--- how many rounds there can still be falls
-pub few-left : (limits : R.Header) (steps rounds next : ℕ) → Few limits steps rounds next
-    → rounds_most limits - (rounds + 1) < rounds_most limits - rounds
-few-left limits steps rounds next few = omega (arith, few.early, few.near)
-
-pub few-none : (limits : R.Header) (steps due : ℕ) → 0 < due → due ≤ no_test → Few limits steps 0 due
-few-none limits steps due some most = record { risen = omega arith; early = some; near = omega arith; fits = omega arith }
-
 -- one round more: h is the sum of the steps before its pass, p after it, k after the sweep
 module _ (limits : R.Header) (h p k rounds next : ℕ) (few : Few limits h rounds next) (pass : h ≤ p) (moved : p < k) where
   -- a round without the test, and one with it

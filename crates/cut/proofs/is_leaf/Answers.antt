@@ -1,11 +1,10 @@
 -- `is_leaf` meets its contract.
-use mathlib.Core.Path.{sym, ◌∙◌}
-use borrow.Author.Tests.{ne_eqb}
+use mathlib.Core.Path.{sym}
 use Rattle.flow.proofs.Marks.{mark-entered, mark-inside}
 use Rattle.cut.proofs.is_leaf.Goals as goal
 
-pub returns-then-seen-i-eq0 : goal.returns-then-seen-i-eq0
-returns-then-seen-i-eq0 c = mark-entered c.args.seen.now c.args.x c.if-seen-i-eq0.true
+pub returns-then-not-seen-i : goal.returns-then-not-seen-i
+returns-then-not-seen-i c = mark-entered c.args.seen.now c.args.x c.if-not-seen-i.true
 
-pub returns-else-seen-i-eq0 : goal.returns-else-seen-i-eq0
-returns-else-seen-i-eq0 c = ne_eqb _ _ c.if-seen-i-eq0.false ∙ sym (mark-inside c.args.seen.now c.args.x c.requires c.if-seen-i-eq0.false)
+pub returns-else-not-seen-i : goal.returns-else-not-seen-i
+returns-else-not-seen-i c = let e = c.if-not-seen-i.false in rw e (sym (mark-inside c.args.seen.now c.args.x c.requires e))

@@ -1,6 +1,7 @@
 -- `enter`, `expand` and `scan`, which call each other, meet their contracts.
-use Rattle.std.proofs.Common.{arith, ◌∙◌, inl, inr, refl, sym, subst, ℕ, ◌+◌, ◌<◌, List, length}
+use Rattle.std.proofs.Common.{true, arith, ◌∙◌, inl, inr, refl, sym, subst, ℕ, ◌+◌, ◌<◌, List, length}
 use borrow.Author.Count.{below_none}
+use borrow.Author.Tests.{eq-eqb}
 use Rattle.std.proofs.Math.ListN.{length-set}
 use Rattle.rows.specs.Cells.{cell}
 use Rattle.rows.specs.Table.{count_in}
@@ -11,49 +12,49 @@ use Rattle.flow.proofs.+enter_expand_scan.Goals as goal
 
 -- ---- enter
 
-pub enter-returns-then-c-eq4 : goal.enter-returns-then-c-eq4
-enter-returns-then-c-eq4 t c =
+pub enter-returns-in-Barred : goal.enter-returns-in-Barred
+enter-returns-in-Barred t c =
     let a = c.args in
-    Laws.enter-late a.graph.now a.code.now a.seen.now a.above.now a.x a.from c.requires.startable.flow c.requires.link c.if-c-eq4.true
+    Laws.enter-late a.graph.now a.code.now a.seen.now a.above.now a.x a.from c.requires.startable.flow c.requires.link c.in-Barred.is
 
-pub enter-returns-then-seen-i-ne0 : goal.enter-returns-then-seen-i-ne0
-enter-returns-then-seen-i-ne0 t c =
-    let a = c.args in (
-      Laws.block_none a.graph.now a.code.now a.seen.now a.above.now,
-      Laws.entered-inside a.code.now a.seen.now a.x c.if-c-eq0.true c.if-seen-i-ne0.true,
-    )
+pub enter-returns-else-not-seen-i : goal.enter-returns-else-not-seen-i
+enter-returns-else-not-seen-i t c =
+    let a = c.args in
+    let met = c.if-not-seen-i.false in
+    rw met (Laws.block_none a.graph.now a.code.now a.seen.now a.above.now, Laws.entered-inside a.code.now a.seen.now a.x c.in-Inner.is met)
 
 pub enter-expand-requires : goal.enter-expand-requires
 enter-expand-requires t c =
     let a = c.args in
-    let z = c.if-c-eq0.true in
+    let z = c.in-Inner.is in
     (omega arith, (c.requires.startable, (Laws.under-link a.graph.now a.code.now a.from a.x z c.requires.link, inr z)))
 
-pub enter-returns-then-c-eq0 : goal.enter-returns-then-c-eq0
-enter-returns-then-c-eq0 t c =
+pub enter-returns-then-not-seen-i : goal.enter-returns-then-not-seen-i
+enter-returns-then-not-seen-i t c =
     let a = c.args in
     let e = c.expand in
-    Cells.ends-map e.result (λ d. d) (λ d. (d.0, Laws.entered-inside a.code.now e.new.seen a.x c.if-c-eq0.true d.1)) e.ensures
+    Cells.ends-map e.result (λ d. d) (λ d. (d.0, Laws.entered-inside a.code.now e.new.seen a.x c.in-Inner.is d.1)) e.ensures
 
-pub enter-returns-then-seen-m-ne0 : goal.enter-returns-then-seen-m-ne0
-enter-returns-then-seen-m-ne0 t c =
-    let a = c.args in (
+pub enter-returns-then-seen-m : goal.enter-returns-then-seen-m
+enter-returns-then-seen-m t c =
+    let a = c.args in
+    let y = Laws.is-leafy _ c.in-Either.is in (
       Laws.block_none a.graph.now a.code.now a.seen.now a.above.now,
-      Laws.entered-leaf a.code.now a.seen.now a.x c.if-c-eq0.false c.if-c-eq4.false c.if-seen-m-ne0.true,
+      Laws.entered-leaf a.code.now a.seen.now a.x y.0 y.1 c.if-seen-m.true,
     )
 
-pub enter-expand-requires-2 : goal.enter-expand-requires-2
-enter-expand-requires-2 t c =
+pub enter-expand-requires-in-Either : goal.enter-expand-requires-in-Either
+enter-expand-requires-in-Either t c =
     let a = c.args in
     let s = c.requires.startable in
     let in-s : a.x + 256 < length a.seen.now = omega arith in
-    let z = Cells.zeros-mark a.seen.now (a.x + 256) in-s c.if-seen-m-ne0.false in
+    let z = Laws.unseen-mark a.seen.now (a.x + 256) in-s c.if-seen-m.false in
     let q = s.flow.low a.x s.node in (
       omega arith,
       (
         record {
           falling = s.falling;
-          marks = length-set a.seen.now (a.x + 256) 1 ∙ s.marks;
+          marks = length-set a.seen.now (a.x + 256) true ∙ s.marks;
           flow = s.flow;
           node = q;
           source = q;
@@ -66,46 +67,80 @@ enter-expand-requires-2 t c =
 pub enter-returns-then-expand : goal.enter-returns-then-expand
 enter-returns-then-expand t c =
     let a = c.args in
+    let y = Laws.is-leafy _ c.in-Either.is in
     let s = c.requires.startable in
     let in-s : a.x + 256 < length a.seen.now = omega arith in
-    let e = c.expand-2 in
+    let e = c.expand-in-Either in
     Laws.enter-push a.graph.now a.code.now a.seen.now e.new.seen a.above.now e.new.above a.x a.from s.node in-s
-    c.if-seen-m-ne0.false c.if-c-eq0.false c.if-c-eq4.false s.source s.below c.requires.link c.if-expand.ensures
+    c.if-seen-m.false y.0 y.1 s.source s.below c.requires.link c.if-expand.ensures
 
-pub enter-returns : goal.enter-returns
-enter-returns t c =
+pub enter-returns-else-expand : goal.enter-returns-else-expand
+enter-returns-else-expand t c =
     let a = c.args in
+    let y = Laws.is-leafy _ c.in-Either.is in
     let s = c.requires.startable in
     let in-s : a.x + 256 < length a.seen.now = omega arith in
-    let e = c.expand-2 in
+    let e = c.expand-in-Either in
     let f = c.if-expand.ensures in
     Laws.enter-block a.graph.now a.code.now a.seen.now e.new.seen a.above.now e.new.above a.x a.from s.node in-s
-    c.if-seen-m-ne0.false c.if-c-eq0.false c.if-c-eq4.false f.0 f.1
+    c.if-seen-m.false y.0 y.1 f.0 f.1
 
 -- ---- expand
 
-pub expand-returns-then-code-i-ge3 : goal.expand-returns-then-code-i-ge3
-expand-returns-then-code-i-ge3 t c =
+pub expand-returns-in-Outer : goal.expand-returns-in-Outer
+expand-returns-in-Outer t c =
     let a = c.args in
-    Laws.expand-leaf a.graph.now a.code.now a.seen.now a.above.now a.p a.from c.requires.startable.flow c.requires.fact c.if-code-i-ge3.true
+    Laws.expand-leaf a.graph.now a.code.now a.seen.now a.above.now a.p a.from c.requires.startable.flow c.requires.fact (Laws.not-inside _ c.in-Outer.is)
 
 pub expand-scan-requires : goal.expand-scan-requires
 expand-scan-requires t c =
     let a = c.args in
     let s = c.requires.startable in
     let in-s : a.p < length a.seen.now = omega arith in
-    let z = Cells.zeros-mark a.seen.now a.p in-s c.if-seen-i-ne0.false in (
+    let z = Laws.unseen-mark a.seen.now a.p in-s c.if-seen-i.false in (
       omega arith,
       (
         record {
           falling = s.falling;
-          marks = length-set a.seen.now a.p 1 ∙ s.marks;
+          marks = length-set a.seen.now a.p true ∙ s.marks;
           flow = s.flow;
           node = s.node;
           source = s.source;
           below = s.below;
         },
         c.requires.under,
+      ),
+    )
+
+pub expand-returns-else-above-i : goal.expand-returns-else-above-i
+expand-returns-else-above-i t c =
+    let a = c.args in
+    let s = c.requires.startable in
+    let in-s : a.p < length a.seen.now = omega arith in
+    let e = c.scan in
+    let f = c.if-scan.ensures in
+    rw (eq-eqb _ _ c.if-above-i.false) (Laws.expand-stuck a.graph.now a.code.now a.seen.now e.new.seen a.above.now e.new.above a.p s.node in-s
+    c.if-seen-i.false (Laws.is-inside _ c.in-Inner.is) f.0 f.1 c.if-above-i.false)
+
+pub expand-enter-requires : goal.expand-enter-requires
+expand-enter-requires t c =
+    let a = c.args in
+    let s = c.requires.startable in
+    let in-s : a.p < length a.seen.now = omega arith in
+    let z = Laws.unseen-mark a.seen.now a.p in-s c.if-seen-i.false in
+    let f = c.if-scan.ensures in
+    let w = f.0.fewer in (
+      omega arith,
+      (
+        record {
+          falling = s.falling;
+          marks = f.0.long ∙ length-set a.seen.now a.p true ∙ s.marks;
+          flow = subst (λ (l : List ℕ). Flow a.graph.now a.code.now l) (sym f.0.same) s.flow;
+          node = s.node;
+          source = s.node;
+          below = omega arith;
+        },
+        Laws.link-under a.graph.now a.code.now a.p a.p (Laws.under-self a.graph.now a.code.now a.p),
       ),
     )
 
@@ -116,42 +151,10 @@ expand-returns-then-above-i t c =
     let in-s : a.p < length a.seen.now = omega arith in
     let e = c.scan in
     let f = c.if-scan.ensures in
-    Laws.expand-stuck a.graph.now a.code.now a.seen.now e.new.seen a.above.now e.new.above a.p s.node in-s
-    c.if-seen-i-ne0.false c.if-code-i-ge3.false f.0 f.1 c.if-above-i.true
-
-pub expand-enter-requires : goal.expand-enter-requires
-expand-enter-requires t c =
-    let a = c.args in
-    let s = c.requires.startable in
-    let in-s : a.p < length a.seen.now = omega arith in
-    let z = Cells.zeros-mark a.seen.now a.p in-s c.if-seen-i-ne0.false in
-    let f = c.if-scan.ensures in
-    let w = f.0.fewer in (
-      omega arith,
-      (
-        record {
-          falling = s.falling;
-          marks = f.0.long ∙ length-set a.seen.now a.p 1 ∙ s.marks;
-          flow = subst (λ (l : List ℕ). Flow a.graph.now a.code.now l) (sym f.0.same) s.flow;
-          node = s.node;
-          source = s.node;
-          below = omega arith;
-        },
-        Laws.link-under a.graph.now a.code.now a.p a.p (Laws.under-self a.graph.now a.code.now a.p),
-      ),
-    )
-
-pub expand-returns : goal.expand-returns
-expand-returns t c =
-    let a = c.args in
-    let s = c.requires.startable in
-    let in-s : a.p < length a.seen.now = omega arith in
-    let e = c.scan in
-    let f = c.if-scan.ensures in
     let g = c.enter in
     Laws.expand-back a.graph.now a.code.now a.seen.now e.new.seen a.above.now e.new.above a.p s.node in-s
-    c.if-seen-i-ne0.false c.if-code-i-ge3.false f.0 f.1
-    g.new.seen g.new.above a.from g.result s.flow c.requires.fact c.if-above-i.false g.ensures
+    c.if-seen-i.false (Laws.is-inside _ c.in-Inner.is) f.0 f.1
+    g.new.seen g.new.above a.from g.result s.flow c.requires.fact c.if-above-i.true g.ensures
 
 -- ---- scan
 

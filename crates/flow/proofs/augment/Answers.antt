@@ -1,7 +1,8 @@
 -- `augment` meets its contract. The invariant: the flow has the value `units`.
 use Rattle.std.proofs.Common.{◌≡◌, ℕ, ◌+◌, subst, arith}
 use Rattle.flow.specs.Search.{Valued}
-use Rattle.maps.proofs.Member.{zeros-at}
+use mathlib.Core.Bool.{Bool, false}
+use lib.ListN.{get_or-replicate}
 use Rattle.flow.proofs.Laws as Laws
 use Rattle.flow.proofs.Duality.{valued-none, valued-more}
 use Rattle.flow.proofs.Failed.{settle-first}
@@ -21,7 +22,7 @@ loop-units-preserved c = valued-more c.loop-units.invariant c.if-not-expand.ensu
 pub returns-then-not-expand-clause-augmented : goal.returns-then-not-expand-clause-augmented
 returns-then-not-expand-clause-augmented c =
     let f = c.if-not-expand.ensures in
-    let settled = settle-first (zeros-at 512) f.0 c.loop-units.invariant f.1 in
+    let settled = settle-first (λ i l. get_or-replicate {A = Bool} 512 i false false l) f.0 c.loop-units.invariant f.1 in
     record { most = omega arith; value = settled.value; settled = λ _. settled }
 
 pub returns-clause-augmented : goal.returns-clause-augmented
