@@ -1,5 +1,5 @@
 // The importing call.
-ghost use Rattle.std.specs.Prelude.{◌≡◌, true, ◌≤◌, length};
+ghost use Rattle.std.specs.Prelude.{◌≡◌, true, ℕ, ◌≤◌, length};
 ghost use Rattle.out_bytes.specs.Outcome.{Answered, number_answered, place_answered};
 ghost use Rattle.blif.specs.Limits.{caller, delay as Delay, callable, text_most};
 ghost use Rattle.blif.specs.Model as Blif;
@@ -26,9 +26,9 @@ pub fn write_model(
     circuit: &mut Circuit,
     buffer: &mut [u8],
 ) -> Result<usize, Refusal>
-    requires callable { (length text.now ≤ text_most) × (callable (caller_meant caller) ≡ true) }
-    requires kept { (M : Blif.Model) × KeptIn (Delay (caller_meant caller)) M.definitions circuit.old × (model_of text.now ≡ found M) }
-    ensures { Answered (importing text.now (caller_meant caller) (length buffer.old)) (number_answered result) (place_answered result) buffer.old buffer.new }
+    requires { (length text.now ≤ text_most) × ((d : ℕ) × (M : Blif.Model) × KeptIn d M.definitions circuit.old × (model_of text.now ≡ found M)) }
+    ensures { (M : Blif.Model) → callable (caller_meant caller) ≡ true → KeptIn (Delay (caller_meant caller)) M.definitions circuit.old → model_of text.now ≡ found M
+        → Answered (importing text.now (caller_meant caller) (length buffer.old)) (number_answered result) (place_answered result) buffer.old buffer.new }
 {
     let size = circuit.size;
     mark_outputs(text, &circuit.names, size.nodes, &mut circuit.nodes)?;
@@ -45,13 +45,19 @@ pub fn write_model(
     write(&records, buffer)
 }
 
-// Imports a text that is not too long for a caller whose numbers are in range.
-pub fn import_text(text: &[u8], caller: Caller, buffer: &mut [u8]) -> Result<usize, Refusal>
-    requires { (length text.now ≤ text_most) × (callable (caller_meant caller) ≡ true) }
-    ensures { Answered (importing text.now (caller_meant caller) (length buffer.old)) (number_answered result) (place_answered result) buffer.old buffer.new }
+// Imports a text that is not too long for a caller whose numbers are in range, where a table takes `delay` levels.
+pub fn import_text(
+    text: &[u8],
+    caller: Caller,
+    delay: u32,
+    buffer: &mut [u8],
+) -> Result<usize, Refusal>
+    requires { length text.now ≤ text_most }
+    ensures { callable (caller_meant caller) ≡ true → Delay (caller_meant caller) ≡ delay
+        → Answered (importing text.now (caller_meant caller) (length buffer.old)) (number_answered result) (place_answered result) buffer.old buffer.new }
 {
     let mut circuit = Circuit::new();
-    read_model(text, caller.delay(), &mut circuit)?;
+    read_model(text, delay, &mut circuit)?;
     write_model(text, caller, &mut circuit, buffer)
 }
 
@@ -77,5 +83,5 @@ pub fn import_blif(
     if !caller.is_callable() || TEXT_MOST < text.len() {
         return Err(Refusal::Limit(0));
     }
-    import_text(text, caller, buffer)
+    import_text(text, caller, caller.delay(), buffer)
 }

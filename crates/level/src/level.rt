@@ -93,6 +93,7 @@ pub fn try_level(
     requires by_index { (u : ℕ) → u < v → Soon graph.now labels.now.steps u }
     ensures tried_level { (S : Sheet) → Placed S graph.now v limits → TriedLevel S graph.now labels.now.steps labels.now.levels kept.new v limits.top (label_of by) result }
     ensures beside { Beside v kept.old kept.new }
+    ensures kept_len_2 { length kept.new ≡ 2048 }
     ensures kept_unchanged { result ≡ false → kept.new ≡ kept.old }
 {
     let mut code = [Code::Inner; 256];
@@ -120,7 +121,8 @@ pub fn narrow(
     requires placed { (S : Sheet) × Placed S graph.now v limits }
     requires by_index { (u : ℕ) → u < v → Soon graph.now labels.now.steps u }
     requires low_lt_high { (span.low.0 < span.high.0) × (span.high.0 ≤ limits.top + 1) }
-    ensures { Narrowed graph.now labels.now.steps labels.now.levels kept.old kept.new v limits s.0 span.low.0 span.high.0 result.low.0 result.high.0 }
+    ensures kept_len_2 { length kept.new ≡ 2048 }
+    ensures narrowed { Narrowed graph.now labels.now.steps labels.now.levels kept.old kept.new v limits s.0 span.low.0 span.high.0 result.low.0 result.high.0 }
 {
     let l = span.between();
     if !try_level(graph, labels, kept, limits, v, Label::at(s, l)) {
@@ -150,7 +152,8 @@ pub fn least_level(
     requires placed { (S : Sheet) × Placed S graph.now v limits × Keeps S kept.old v }
     requires by_index { (u : ℕ) → u < v → Soon graph.now labels.now.steps u }
     requires level_bound { base.level.0 ≤ limits.top + 1 }
-    ensures { Levelled graph.now labels.now.steps labels.now.levels kept.old kept.new v limits base.step.0 base.level.0 result.0 }
+    ensures kept_len_2 { length kept.new ≡ 2048 }
+    ensures levelled { Levelled graph.now labels.now.steps labels.now.levels kept.old kept.new v limits base.step.0 base.level.0 result.0 }
 {
     let most = carried(graph, labels, kept, v, Level(limits.top), base.step);
     let mut span = Span {
@@ -161,6 +164,7 @@ pub fn least_level(
     while span.low.0 < span.high.0 {
         span = narrow(graph, labels, kept, limits, v, base.step, span);
     }
+    kept.check_rows();
     span.high
 }
 
@@ -182,7 +186,6 @@ pub fn table_label(
     ensures kept_len_2 { length kept.new ≡ 2048 }
 {
     let l = least_level(graph, labels, kept, limits, v, base);
-    kept.check_rows();
     if l.0 <= limits.top {
         Label::at(base.step, l)
     } else {

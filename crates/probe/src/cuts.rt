@@ -21,7 +21,7 @@ fn set_codes(graph: &Graph, allowed: &[u8; 256], code: &mut [Code; 256], v: u32)
     }
 }
 
-// Reads the sheet into empty tables and sets the codes of the question; false where v is none of its logic nodes, it does not read or k is above 6.
+// Reads the sheet into tables that it empties, and sets the codes of the question; false where v is none of its logic nodes, it does not read or k is above 6.
 fn prepare(
     sheet: &[u8],
     allowed: &[u8; 256],
@@ -30,9 +30,9 @@ fn prepare(
     tables: &mut Tables,
     code: &mut [Code; 256],
 ) -> bool
-    requires { (tables.old.graph ≡ no_nodes) × (tables.old.differences ≡ no_differences) }
     ensures { Prepared result sheet.now allowed.now v k tables.new.graph code.new }
 {
+    *tables = Tables::EMPTY;
     let Ok(header) = read_sheet(sheet, tables) else {
         return false;
     };

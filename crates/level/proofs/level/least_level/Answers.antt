@@ -9,7 +9,7 @@ pub loop-span-init : goal.loop-span-init
 loop-span-init c = spanned-first c.requires.level_bound c.carried-most.ensures c.higher.ensures
 
 pub loop-span-preserved : goal.loop-span-preserved
-loop-span-preserved c = spanned-more c.loop-span.invariant c.narrow-span.ensures
+loop-span-preserved c = spanned-more c.loop-span.invariant c.narrow-span.ensures.narrowed
 
-pub returns : goal.returns
-returns c = spanned-last c.loop-span-test.false c.loop-span.invariant
+pub returns-clause-levelled : goal.returns-clause-levelled
+returns-clause-levelled c = spanned-last c.loop-span-test.false c.loop-span.invariant

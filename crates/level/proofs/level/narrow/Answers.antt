@@ -9,8 +9,8 @@ try_level-requires-clause-falling c =
     let p = c.requires.placed.1 in
     falling c.requires.placed.0 c.args.graph.now p.well p.tabled
 
-pub returns-then-not-try_level : goal.returns-then-not-try_level
-returns-then-not-try_level c =
+pub returns-then-not-try_level-clause-narrowed : goal.returns-then-not-try_level-clause-narrowed
+returns-then-not-try_level-clause-narrowed c =
     let a = c.args in
     let l = c.between-l in
     let e = c.try_level in
@@ -29,8 +29,8 @@ carried-most-requires-clause-leaves c =
     (tried-true a.graph.now a.labels.now.steps a.labels.now.levels a.v a.limits a.s.0 e.new.kept l.result.0 e.result c.if-not-try_level.false tried c.requires.placed.0 p).0
     c.requires.by_index
 
-pub returns : goal.returns
-returns c =
+pub returns-clause-narrowed : goal.returns-clause-narrowed
+returns-clause-narrowed c =
     let a = c.args in
     let l = c.between-l in
     let e = c.try_level in
