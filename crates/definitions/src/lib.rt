@@ -14,7 +14,7 @@ ghost use Rattle.records.specs.Rows.{node_place};
 ghost use Rattle.names.specs.Table.{names_in, Listed};
 ghost use Rattle.subset.specs.Meant.{statement_meant, Shaped};
 ghost use Rattle.definitions.specs.Rows.{row_meant};
-ghost use Rattle.definitions.specs.Kept.{KeptIn, AddedTo, Lawful};
+ghost use Rattle.definitions.specs.Kept.{KeptIn, Added, AddedTo, Lawful};
 
 use names::{Names, add_name, id_of};
 use records::{NodeRow, append, put_row};
@@ -124,6 +124,34 @@ pub fn keep_node(
     reads: usize,
     kind: Kind,
     delay: u32,
+    names: &mut Names,
+    nodes: &mut [u32],
+    operands: &mut [u32],
+    size: Size,
+) -> usize
+    requires reads_in_bounds { (reads < length (words_at text.now start)) × (length (get_or (words_at text.now start) reads []) ≤ name_most) × Listed names.old size.nodes × (size.nodes < size_range.high) }
+    requires reads_value { has (names_in names.old size.nodes) (get_or (words_at text.now start) reads []) ≡ false }
+    requires nodes_in_bounds { (node_place (size.nodes + 1) ≤ length nodes.old) × (size.operands + reads ≤ length operands.old) × (size.operands + reads ≤ size_range.high * operands_most) }
+    ensures result_value { words_at text.now result ≡ drop (reads + 1) (words_at text.now start) }
+    ensures added { Added delay (definition (get_or (words_at text.now start) reads []) (kind_meant kind) (take reads (words_at text.now start)))
+        names.old nodes.old operands.old size.nodes size.operands names.new nodes.new operands.new }
+{
+    let n = size.nodes;
+    let used = size.operands;
+    let rest = append_reads(text, start, reads, names, n, operands, used);
+    let first = after_blanks(text, rest);
+    add_name(text, names, n, first);
+    put_row(nodes, n, row_of(kind, delay, (used + reads) as u32));
+    after_word(text, first)
+}
+
+// The same, of what is kept so far, and one node more with its operands counted.
+fn keep_next(
+    text: &[u8],
+    start: usize,
+    reads: usize,
+    kind: Kind,
+    delay: u32,
     circuit: &mut Circuit,
 ) -> usize
     requires reads_in_bounds { (reads < length (words_at text.now start)) × (length (get_or (words_at text.now start) reads []) ≤ name_most) × Listed circuit.old.names circuit.old.size.nodes × (circuit.old.size.nodes < size_range.high) }
@@ -133,25 +161,23 @@ pub fn keep_node(
     ensures added { AddedTo delay (definition (get_or (words_at text.now start) reads []) (kind_meant kind) (take reads (words_at text.now start))) circuit.old circuit.new }
     ensures size { (circuit.new.size.nodes ≡ circuit.old.size.nodes + 1) × (circuit.new.size.operands ≡ circuit.old.size.operands + reads) }
 {
-    let Size { nodes, operands } = circuit.size;
-    let rest = append_reads(
+    let size = circuit.size;
+    let rest = keep_node(
         text,
         start,
         reads,
-        &circuit.names,
-        nodes,
+        kind,
+        delay,
+        &mut circuit.names,
+        &mut circuit.nodes,
         &mut circuit.operands,
-        operands,
+        size,
     );
-    let first = after_blanks(text, rest);
-    add_name(text, &mut circuit.names, nodes, first);
-    let end = operands + reads;
-    put_row(&mut circuit.nodes, nodes, row_of(kind, delay, end as u32));
     circuit.size = Size {
-        nodes: nodes + 1,
-        operands: end,
+        nodes: size.nodes + 1,
+        operands: size.operands + reads,
     };
-    after_word(text, first)
+    rest
 }
 
 // Keeps inputs, whose names are the next k words.
@@ -163,7 +189,7 @@ pub fn keep_inputs(text: &[u8], start: usize, k: usize, delay: u32, circuit: &mu
 {
     let mut at = start;
     for _ in 0..k {
-        at = keep_node(text, at, 0, Kind::Input, delay, circuit);
+        at = keep_next(text, at, 0, Kind::Input, delay, circuit);
     }
 }
 
@@ -182,7 +208,7 @@ pub fn keep_one(
         → all (has (names_of ds)) (take reads (words_at text.now rest)) ≡ true → has (names_of ds) (get_or (words_at text.now rest) reads []) ≡ false
         → KeptIn delay (ds ++ (definition (get_or (words_at text.now rest) reads []) (kind_meant kind) (take reads (words_at text.now rest)) ∷ [])) circuit.new }
 {
-    keep_node(text, rest, reads, kind, delay, circuit);
+    keep_next(text, rest, reads, kind, delay, circuit);
 }
 
 // The kind of a `.names` that reads so many names.

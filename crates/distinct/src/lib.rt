@@ -65,6 +65,16 @@ fn merge(text: &[u8], xs: &[u16], ys: &[u16], out: &mut [u16]) -> Result<(), Rep
     Ok(())
 }
 
+// Copies as many elements as `to` has. `copy_from_slice` is compiled to memmove here, a name that the archive for C does not need from outside.
+fn copy(from: &[u16], to: &mut [u16])
+    requires { length to.old ≤ length from.now }
+    ensures { to.new ≡ take (length to.old) from.now }
+{
+    for i in 0..to.len() {
+        to[i] = from[i];
+    }
+}
+
 // Merges the parts of a list before `half` and from it on, both ascending, into `out`.
 fn merge_parts(text: &[u8], words: &[u16], half: usize, out: &mut [u16]) -> Result<(), Repeated>
     requires half_in_bounds { (half ≤ length words.now) × (length words.now ≤ length out.old) }
@@ -89,7 +99,7 @@ fn merge_within(
         × Sorted (names text.now words.old) (names text.now words.new) result }
 {
     merge_parts(text, words, half, room)?;
-    words.copy_from_slice(&room[..words.len()]);
+    copy(room, words);
     Ok(())
 }
 

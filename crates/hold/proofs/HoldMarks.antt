@@ -15,16 +15,21 @@ use borrow.Author.Tests.{ltb-true}
 use Rattle.std.proofs.lemmas.Bool.{lt-ltb}
 use Rattle.std.proofs.lemmas.List.Sums.{sum_by-set}
 use Rattle.std.specs.List.{count_by}
-use Rattle.rows.specs.Table.{operand_in}
+use Rattle.rows.specs.Table.{operand_in, latency_in}
 use Rattle.hold.specs.declared.Order.{Order}
 use Rattle.hold.specs.declared.Order.TheVariants.{Rising, Falling}
 use Rattle.hold.specs.Turn.{turn_of}
-use Rattle.hold.specs.Mark.{HeldIn, early-in, operand-in, target-in, Floats, held_in, OnlyHeld, HeldEarly, Holdable, NodeHeld, Marked, Swept, AllMarked}
+use Rattle.hold.specs.Mark.{HeldIn, early-in, operand-in, target-in, Floats, held_in, OnlyHeld, HeldEarly, Near, Holdable, NodeHeld, Marked, Swept, AllMarked}
 
 -- ---- tests
 
 pub not-both : {b : Bool} → b ≡ true → b ≡ false → ⊥
 not-both p q = let z : ◌≡◌ {A = ℕ} 0 1 = cc in omega arith
+
+-- operand j of v, read as u with its ready step, holds v where u is marked and its ready step is close
+pub near_by : (graph steps : List ℕ) (held : List Bool) (p v j : ℕ) {u ready own : ℕ} → u ≡ operand_in graph v j → ready ≡ get_or steps u 0 + latency_in graph u
+    → own ≡ get_or steps v 0 → held_in held u ≡ true → own ≤ ready + p → Near graph steps held p v j
+near_by graph steps held p v j e r o h c = record { holds = rw (← e) h; close = rw (← e) (omega arith) }
 
 -- ---- one mark
 

@@ -1,2 +1,3 @@
 pub mod SheetLaws
 pub mod Calls
+pub mod CallerLaws

@@ -4,11 +4,16 @@ use mathlib.Core.Logic.{◌⊎◌, inl, inr}
 use Rattle.bound.specs.Lookup.{cut_stride, leaf_column, count_of, leaf_of, Beside}
 use Rattle.level.specs.declared.cuts.Cut.{Cut}
 use Rattle.level.specs.Cuts.{Stored}
-use Rattle.level.specs.Numbers.{numbers_of, numbers}
+use Rattle.level.specs.Numbers.{numbers_of, numbers, Seven}
 
 -- a cut that has no leaves, and no row
 abbrev pub no_cut : Cut
 no_cut = record { count = 0; leaves = [] }
+
+-- a list of seven numbers is its first seven
+pub seven : (xs : List ℕ) → length xs ≡ 7 → Seven xs
+seven (a ∷ b ∷ c ∷ d ∷ e ∷ f ∷ g ∷ []) h = refl
+seven xs h = absurd (omega arith)
 
 length-numbers : (rows : List Cut) → length (numbers rows) ≡ length rows * 8
 unfolding numbers numbers_of

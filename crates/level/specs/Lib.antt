@@ -1,4 +1,5 @@
 pub mod Carry
 pub mod Cuts
+pub mod CutsBack
 pub mod Numbers
 pub mod Span

@@ -21,20 +21,25 @@ struct Cut {
 }
 
 // A cut for each of 256 nodes.
-#[derive(Drop)]
+#[derive(Clone, Copy)]
 pub struct Cuts {
     rows: [Cut; 256],
 }
 
 impl Model for Cuts {
-    ghost use Rattle.std.specs.Prelude.{◌≡◌, ℕ, List, length};
-    ghost use Rattle.level.specs.Numbers.{numbers};
+    ghost use Rattle.std.specs.Prelude.{◌≡◌, ℕ, List, length, All};
+    ghost use Rattle.level.specs.Numbers.{numbers, cuts_of, Seven};
+    ghost use Rattle.level.specs.CutsBack.{cuts-back};
 
     ghost Value = { List ℕ };
 
     ghost view = { λ a. numbers a.rows };
 
-    ghost invariant = { λ a. length a.rows ≡ 256 };
+    ghost invariant = { λ a. (length a.rows ≡ 256) × All (λ c. Seven c.leaves) a.rows };
+
+    ghost inverse = { λ xs. record { rows = cuts_of xs } };
+
+    ghost inverse_ok = { λ a h i. record { rows = cuts-back a.rows h.1 i } };
 }
 
 impl Cut {

@@ -3,7 +3,7 @@
 // by the test whether the cut fits (now).
 #![tactic(auto)]
 
-ghost use Rattle.std.specs.Prelude.{◌+◌, ◌<◌, ◌≤◌, unwrap_or};
+ghost use Rattle.std.specs.Prelude.{◌+◌, ◌<◌, ◌≤◌, IfSome, unwrap_or};
 ghost use Rattle.rows.specs.Table.{Falling};
 ghost use Rattle.looks.specs.Counted.{Counted};
 
@@ -43,7 +43,8 @@ fn count_cone(graph: &Graph, marks: &[bool; 256], v: u32, k: u32) -> Counts
     requires falling { Falling graph.now }
     requires v_bound { v < 256 }
     requires k_bound { k < 8 }
-    ensures { Counted graph.now marks.now v k (unwrap_or result.leaves (k + 1)) result.before result.now }
+    ensures most { IfSome result.leaves (λ n. n ≤ k) }
+    ensures counted { Counted graph.now marks.now v k (unwrap_or result.leaves (k + 1)) result.before result.now }
 {
     let mut cut = [0u32; 8];
     let mut looked: u32 = 0;

@@ -29,7 +29,7 @@ struct Entry {
 }
 
 // Names, each at the place of its id, in lists by their hashes: the head of a list is the id of its latest name.
-#[derive(Drop)]
+#[derive(Clone, Copy)]
 pub struct Names {
     heads: [Option<u8>; BUCKETS],
     entries: [Entry; MOST_NAMES],

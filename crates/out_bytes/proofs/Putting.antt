@@ -1,5 +1,5 @@
 -- Writes into a buffer: a number, and one write after another.
-use Prim.Native.Nat.{ℕ, zero, suc, ◌+◌, ◌/◌, ◌%◌, ◌^◌, ◌≤◌, ◌<◌}
+use Prim.Native.Nat.{ℕ, zero, suc, ◌+◌, ◌-◌, ◌/◌, ◌%◌, ◌^◌, ◌≤◌, ◌<◌}
 use mathlib.Core.Path.{◌≡◌, refl, sym, ap, ◌∙◌}
 use mathlib.Core.List.{List, [], ◌∷◌, ◌++◌, map, append_assoc, append-nil}
 use native.Mathlib.Omega.{arith}
@@ -8,7 +8,7 @@ use lib.ListN.{length, take, set, length-append, length-set}
 use lib.Seq.{take-suc-set}
 use borrow.Author.Tests.{le-ltb}
 use Rattle.maps.specs.Lists.{concat}
-use Rattle.maps.specs.Number.{encoded_up_to}
+use Rattle.maps.specs.Number.{encoded_up_to, width}
 use Rattle.maps.proofs.Spelling.{written-length, encoded-small}
 use Rattle.out_bytes.specs.Put.{Put}
 
@@ -95,6 +95,14 @@ module _ {g x : ℕ} {before : List ℕ} {at : ℕ} where
     begun-last l =
         let e : encoded_up_to g x ≡ b.low ++ (rest ∷ []) = b.whole ∙ ap (λ (r : List ℕ). b.low ++ r) (encoded-small b.left rest l) in
         rw e (put_then _ (omega (arith, length-append b.low (rest ∷ []))) b.put (put_byte bytes to rest begun-room))
+
+-- after two bytes what is left of a number is below 128
+pub last-below : {x : ℕ} {before bytes : List ℕ} {at to rest : ℕ} → Begun (width - 1) x before bytes at to rest → to ≡ at + 2 → rest < 128
+last-below {rest = rest} b e = go b.left (omega (arith, b.count, b.put.end, e)) b.fits
+  where
+    go : (k : ℕ) → k ≡ 0 → rest < 128 ^ suc k → rest < 128
+    go zero z f = omega (arith, f)
+    go (suc k) z f = absurd (omega (arith, z))
 
 -- one more element
 pub concat-more : {A : Type 0} (f : A → List ℕ) (xs : List A) (y : A) → concat (map f (xs ++ (y ∷ []))) ≡ concat (map f xs) ++ f y

@@ -9,13 +9,17 @@ ghost use Rattle.out_bytes.specs.Outcome.{Answered, number_answered, place_answe
 
 use types::Refusal;
 
-// Writes x, seven bits in each byte and the low group first; the position after it.
-fn put_at(bytes: &mut [u8], mut at: usize, x: u32) -> usize
+// Writes x, seven bits in each byte and the low group first; the position after it. No number has more than three bytes.
+pub fn put(bytes: &mut [u8], mut at: usize, x: u32) -> usize
     requires { (x < values) × (at + bytes_for x ≤ length bytes.old) }
     ensures { Put (bytes_for x) bytes.old bytes.new at result (encoded x) }
 {
     let mut rest = x;
-    while 128 <= rest {
+    for _ in 0..2u32 {
+        if rest < 128 {
+            bytes[at] = rest as u8;
+            return at + 1;
+        }
         bytes[at] = (128 + rest % 128) as u8;
         at += 1;
         rest /= 128;
@@ -24,8 +28,20 @@ fn put_at(bytes: &mut [u8], mut at: usize, x: u32) -> usize
     at + 1
 }
 
+// Hands over the first n bytes where the buffer has room: their count, or the refusal.
+pub fn hand_over(bytes: &[u8], buffer: &mut [u8], n: usize) -> Result<usize, Refusal>
+    requires { n ≤ length bytes.now }
+    ensures { Answered (within (length buffer.old) (take n bytes.now)) (number_answered result) (place_answered result) buffer.old buffer.new }
+{
+    if buffer.len() < n {
+        return Err(Refusal::Room(n));
+    }
+    buffer[..n].copy_from_slice(&bytes[..n]);
+    Ok(n)
+}
+
 // What is written so far: the first `len` of the bytes.
-#[derive(Drop)]
+#[derive(Clone, Copy)]
 pub struct Output<const N: usize> {
     pub bytes: [u8; N],
     pub len: usize,
@@ -48,7 +64,7 @@ impl<const N: usize> Output<N> {
         ensures put { Put (bytes_for x) self.old.bytes self.new.bytes self.old.len self.new.len (encoded x) }
         ensures len_fits { self.new.len < 2 ^ 64 }
     {
-        self.len = put_at(&mut self.bytes, self.len, x);
+        self.len = put(&mut self.bytes, self.len, x);
     }
 
     // Hands over what is written where the buffer has room: its length, or the refusal.
@@ -56,11 +72,7 @@ impl<const N: usize> Output<N> {
         requires { self.now.len ≤ length self.now.bytes }
         ensures { Answered (within (length buffer.old) (take self.now.len self.now.bytes)) (number_answered result) (place_answered result) buffer.old buffer.new }
     {
-        if buffer.len() < self.len {
-            return Err(Refusal::Room(self.len));
-        }
-        buffer[..self.len].copy_from_slice(&self.bytes[..self.len]);
-        Ok(self.len)
+        hand_over(&self.bytes, buffer, self.len)
     }
 }
 

@@ -30,6 +30,7 @@ pub fn plan_labels(graph: &Graph, limits: Header, labels: &Labels, output: &mut 
     ensures bytes_after { (S : Sheet) (differences : List ℕ) → Given S graph.now differences limits → Legal S (at (labels_in (size S) labels.now.steps labels.now.levels)) S.horizon
         → take output.new.len output.new.bytes ≡ plan S (labels_in (size S) labels.now.steps labels.now.levels) }
     ensures upper_bound { (output.new.len ≤ plan_most) × (output.new.len ≤ length output.new.bytes) }
+    ensures bytes_len { length output.new.bytes ≡ plan_most }
 {
     let mut used = [false; 256];
     let mut cuts = Cuts::new();
@@ -51,6 +52,7 @@ pub fn plan_kept(
     ensures room_value { (S : Sheet) → Given S tables.now.graph tables.now.differences limits → Own S limits → AllKept S kept.old → cutless S ≡ []
         → (room : ℕ) → labelled S room S.windows ≡ made_meant output.new.bytes output.new.len result room }
     ensures short { Short output.new.bytes output.new.len result }
+    ensures bytes_len { length output.new.bytes ≡ plan_most }
 {
     let mut labels = Labels::EARLIEST;
     time_labels(tables, limits, kept, &mut labels)?;
@@ -66,6 +68,7 @@ pub fn plan_tables(tables: &Tables, limits: Header, output: &mut PlanBytes) -> R
     ensures cutless_value { (S : Sheet) → Given S tables.now.graph tables.now.differences limits → Own S limits
         → (room : ℕ) → covered S room (cutless S) ≡ made_meant output.new.bytes output.new.len result room }
     ensures short { Short output.new.bytes output.new.len result }
+    ensures bytes_len { length output.new.bytes ≡ plan_most }
 {
     let mut kept = Cuts::new();
     if let Some(v) = lowest_cutless(&tables.graph, &mut kept, limits.nodes, limits.leaves) {
@@ -79,6 +82,7 @@ pub fn make_plan(sheet: &[u8], output: &mut PlanBytes) -> Result<(), Refusal>
     requires { length output.old.bytes ≡ plan_most }
     ensures made { Made sheet.now output.new.bytes output.new.len result }
     ensures short { Short output.new.bytes output.new.len result }
+    ensures bytes_len { length output.new.bytes ≡ plan_most }
 {
     let mut tables = Tables::EMPTY;
     let limits = read_sheet(sheet, &mut tables)?;

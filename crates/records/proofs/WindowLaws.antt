@@ -4,9 +4,9 @@ use mathlib.Core.Path.{◌≡◌, refl, sym, ap, ◌∙◌, fun_ext}
 use mathlib.Core.Bool.{Bool, true, false}
 use mathlib.Core.List.{List, [], ◌∷◌, ◌++◌, map, append-nil, append_assoc, map-append, map-map}
 use native.Mathlib.Omega.{arith}
-use lib.Dec.{ltb}
+use lib.Dec.{ltb, leb}
 use lib.ListN.{get_or, get_or-eq_default}
-use borrow.Author.Tests.{ltb-true, ltb-false, le-ltb, lt-ltb}
+use borrow.Author.Tests.{ltb-true, ltb-false, le-ltb, lt-ltb, le-leb}
 use Rattle.maps.specs.Lists.{below, concat}
 use Rattle.maps.specs.Sheet.{Node, is_box, no_node}
 use Rattle.maps.specs.Read.{kind_of, next_id}
@@ -15,13 +15,23 @@ use Rattle.maps.specs.Write.{Entry, chain_numbers, window_numbers, boxes_of}
 use Rattle.maps.proofs.Over.{length_over, get_d_over}
 use Rattle.maps.proofs.Numbers.{concat-snoc}
 use Rattle.records.specs.Rows.{node_place, rows_in, node_row, node_in, box_at, window_in, low_in, window_entries, records_in}
+use Rattle.records.specs.declared.NodeRow.{NodeRow}
+
+-- a kind is a box's from 2 on
+box-code : (kind lat q : ℕ) → is_box (kind_of kind lat q) ≡ leb 2 kind
+box-code zero lat q = refl
+box-code (suc zero) lat q = refl
+box-code (suc (suc k)) lat q = sym (le-leb 2 (suc (suc k)) (omega arith))
 
 module _ (nodes : List ℕ) (v : ℕ) where
-  box-past : rows_in node_place nodes ≤ v → box_at nodes v ≡ false
+  pub box-past : rows_in node_place nodes ≤ v → box_at nodes v ≡ false
   box-past l = rw (le-ltb v (rows_in node_place nodes) l)
 
   box-inside : v < rows_in node_place nodes → box_at nodes v ≡ is_box (kind_of (node_row nodes v).kind (node_row nodes v).latency (node_row nodes v).clock)
   box-inside l = rw (lt-ltb v (rows_in node_place nodes) l)
+
+  pub box-own : (row : NodeRow) → row ≡ node_row nodes v → v < rows_in node_place nodes → box_at nodes v ≡ leb 2 row.kind
+  box-own row e l = rw e (box-inside l ∙ box-code _ _ _)
 
 -- the boxes among the rows are those among the records
 module _ (nodes operands : List ℕ) where

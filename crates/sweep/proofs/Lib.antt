@@ -1,2 +1,3 @@
+pub mod Failing
 pub mod Pushing
 pub mod Freezing

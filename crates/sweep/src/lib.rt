@@ -73,9 +73,10 @@ pub fn freeze(search: &Search, labels: &Labels, since: &mut [u32; 256], heeded: 
     ensures since_after { since.new ≡ labels.now.steps }
 {
     *heeded = [0; 256];
-    for v in 0..search.limits.nodes as usize {
-        if labels.steps[v] != since[v] {
-            heeded[v] = search.first[v];
+    for v in 0..search.limits.nodes {
+        let i = v as usize;
+        if labels.step_of(v).0 != since[i] {
+            heeded[i] = search.first[i];
         }
     }
     *since = labels.steps;

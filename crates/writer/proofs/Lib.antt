@@ -1,3 +1,4 @@
 pub mod NodeRows
 pub mod WindowRows
 pub mod Sheets
+pub mod SheetRoom

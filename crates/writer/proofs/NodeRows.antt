@@ -18,14 +18,14 @@ use Rattle.records.specs.Rows.{node_row, end_of, operands_in, node_entries}
 use Rattle.fields.specs.Wrote.{Wrote, passed}
 use Rattle.records.specs.declared.NodeRow.{NodeRow}
 use Rattle.std.specs.Prelude.{Ok}
-use Rattle.fields.specs.declared.SheetOutput.{SheetOutput}
+use Rattle.fields.specs.declared.Position.{Position}
 
 -- the numbers of a node before its operand ids, of which there are `count`
 abbrev pub head_of : (top : ℕ) → NodeRow → (count : ℕ) → List Entry
 head_of top row count = head_entries top row.kind row.output row.delay row.latency row.clock count
 
 -- where they pass, they and so many ids take at most the bytes of a node
-pub head-room : (top count : ℕ) (row : NodeRow) {a b : SheetOutput} → top ≤ top_range.high → Wrote (head_of top row count) a b (Ok tt)
+pub head-room : (top count : ℕ) (row : NodeRow) {a b : List ℕ} {p next : Position} → top ≤ top_range.high → Wrote (head_of top row count) a b p (Ok next)
     → bytes_most (head_of top row count) + count * id_bytes_most ≤ node_bytes_most
 head-room top count row l (passed good f n) = head-ids-most top row.kind row.output row.delay row.latency row.clock count l good.1.1.1.1.1.0
 

@@ -19,9 +19,9 @@ use Rattle.types.specs.Code.{number_of, place_of}
 use Rattle.types.specs.declared.Refusal.{Refusal}
 use Rattle.records.specs.Rows.{node_place, difference_place, rows_in, node_in, difference_in, windows_in, node_entries, difference_entries, box_at, records_in}
 use Rattle.records.proofs.WindowLaws.{boxes-are}
-use Rattle.fields.specs.Wrote.{Fresh, Room, Wrote, passed, failed}
+use Rattle.fields.specs.Wrote.{start, Room, Wrote, passed, failed}
 use Rattle.std.specs.Prelude.{Ok, Err}
-use Rattle.fields.specs.declared.SheetOutput.{SheetOutput}
+use Rattle.fields.specs.declared.Position.{Position}
 
 -- a header whose numbers pass
 pub record Limited (t n m : ℕ) : Type 0 where
@@ -30,7 +30,7 @@ pub record Limited (t n m : ℕ) : Type 0 where
   pub nodes : n ≤ size_range.high
   pub differences : m ≤ count_range.high
 
-pub limited : (k t h n m : ℕ) {a b : SheetOutput} → Wrote (header_entries k t h n m) a b (Ok tt) → Limited t n m
+pub limited : (k t h n m : ℕ) {a b : List ℕ} {p next : Position} → Wrote (header_entries k t h n m) a b p (Ok next) → Limited t n m
 limited k t h n m (passed good f e) =
     let size = in-range size_range n good.1.1.1.0 in
     record { top = (in-range top_range t good.1.0).most; some = size.least; nodes = size.most; differences = (in-range count_range m good.1.1.1.1.0).most }
@@ -40,8 +40,8 @@ pub parts-most : {t n m : ℕ} → Limited t n m → header_bytes_most + n * nod
 parts-most l = omega (arith, mul-le-mul_right node_bytes_most l.nodes, mul-le-mul_right difference_bytes_most l.differences)
 
 -- there is room for a whole sheet
-pub room_whole : {sheet : SheetOutput} → length sheet.output.bytes ≡ sheet_most → Fresh sheet → Room sheet_most sheet
-room_whole e f = record { space = omega (arith, e, f.empty); counted = omega (arith, f.empty, f.first) }
+pub room_whole : {bytes : List ℕ} → length bytes ≡ sheet_most → Room sheet_most bytes start
+room_whole e = record { space = omega (arith, e); counted = omega arith }
 
 rows-map : {A : Type 0} (f : A → List Entry) (row : ℕ → A) (xs : List ℕ) → concat (map f (map row xs)) ≡ concat (map (λ j. f (row j)) xs)
 rows-map f row [] = refl
@@ -68,16 +68,14 @@ numbers-in k t h nodes operands differences p windows n m en em =
       rows-map (difference_numbers n) (difference_in differences) (below m),
     )
 
-module _ (R : Records) {before after : SheetOutput} (fresh : Fresh before) where
+module _ (R : Records) {before after : List ℕ} where
   -- a sheet that was made is what is to be handed over
-  pub made : Wrote (numbers R) before after (Ok tt) → (room : ℕ) → writing R room ≡ within room (take after.output.len after.output.bytes)
-  made (passed good f e) room = rw (f.front, fresh.empty) (passes-writing R room good)
+  pub made : {position : Position} → Wrote (numbers R) before after start (Ok position) → (room : ℕ) → writing R room ≡ within room (take position.at after)
+  made (passed good f e) room = rw f.front (passes-writing R room good)
 
   -- and lies within the bytes
-  pub made-within : Wrote (numbers R) before after (Ok tt) → after.output.len ≤ length after.output.bytes
-  made-within (passed good f e) =
-      let front = rw fresh.empty at f.front in
-      omega (arith, f.end, fresh.empty, length-take after.output.len after.output.bytes, ap length front)
+  pub made-within : (position : Position) → Wrote (numbers R) before after start (Ok position) → position.at ≤ length after
+  made-within position (passed good f e) = omega (arith, f.end, length-take position.at after, ap length f.front)
 
-  pub not_made : {w : Refusal} → Wrote (numbers R) before after (Err w) → (room : ℕ) → writing R room ≡ refusal (number_of w) (place_of w)
-  not_made (failed {w = w} j f p l) room = let q : place_of w ≡ j = omega (arith, p, fresh.first) in rw q (first-refused R room (number_of w) j f)
+  pub not_made : {w : Refusal} → Wrote (numbers R) before after start (Err w) → (room : ℕ) → writing R room ≡ refusal (number_of w) (place_of w)
+  not_made (failed {w = w} j f p l) room = let q : place_of w ≡ j = omega arith in rw q (first-refused R room (number_of w) j f)

@@ -21,7 +21,7 @@ use Rattle.records.specs.declared.WindowRow.{WindowRow}
 use Rattle.records.proofs.WindowLaws.{windows-below}
 use Rattle.fields.specs.Wrote.{Wrote, passed}
 use Rattle.std.specs.Prelude.{Ok}
-use Rattle.fields.specs.declared.SheetOutput.{SheetOutput}
+use Rattle.fields.specs.declared.Position.{Position}
 
 -- the bytes of a window
 pub window_bytes : (n : ℕ) (is_box : ℕ → Bool) (p : ℕ) (windows : List ℕ) → n ≤ size_range.high → p ≤ period_range.high → (j : ℕ)
@@ -35,8 +35,8 @@ window_bytes n is_box p windows ln lp j good =
     )
 
 -- a window that was written is that of a node
-pub window-id : (n : ℕ) (is_box : ℕ → Bool) (p low : ℕ) (w : Window) {a b : SheetOutput}
-    → Wrote (window_numbers n is_box p low w) a b (Ok tt) → w.id ≤ n - 1
+pub window-id : (n : ℕ) (is_box : ℕ → Bool) (p low : ℕ) (w : Window) {a b : List ℕ} {q next : Position}
+    → Wrote (window_numbers n is_box p low w) a b q (Ok next) → w.id ≤ n - 1
 window-id n is_box p low w (passed good f e) = (in-boxed (box_range n low) is_box w.id good.0).0.most
 
 -- the least id of the next
@@ -57,7 +57,7 @@ pub record Cycled (n p k : ℕ) : Type 0 where
   pub period : p ≤ period_range.high
   pub room : bytes_most (cycle_head n p k) + k * window_bytes_most ≤ cycle_bytes_most
 
-pub cycled : (n p k : ℕ) → n ≤ size_range.high → {a b : SheetOutput} → Wrote (cycle_head n p k) a b (Ok tt) → Cycled n p k
+pub cycled : (n p k : ℕ) → n ≤ size_range.high → {a b : List ℕ} {q next : Position} → Wrote (cycle_head n p k) a b q (Ok next) → Cycled n p k
 cycled n p k l (passed good f e) =
     let c = (in-range (windows_range n) k good.1.0).most in
     let few : k ≤ size_range.high = omega arith in

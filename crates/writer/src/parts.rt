@@ -9,107 +9,123 @@ ghost use Rattle.records.specs.Rows.{node_place, difference_place, window_place,
 ghost use Rattle.fields.specs.Wrote.{Room, Wrote};
 
 use entries::{put_difference, put_head};
-use fields::SheetOutput;
+use fields::{Position, put_operand};
 use records::{end_of, node_at, window_at, window_count};
 use types::Refusal;
 use window_write::{put_period, put_window};
 
-// Writes the operands of the node own.
-pub fn put_operands(sheet: &mut SheetOutput, own: u32, operands: &[u32]) -> Result<(), Refusal>
-    requires { (own ≤ size_range.high) × Room (length operands.now * id_bytes_most) sheet.old }
-    ensures { Wrote (map (entry (under own)) operands.now) sheet.old sheet.new result }
+// Writes the operands of the node own: `count` of them from `first` on.
+pub fn put_operands(
+    operands: &[u32],
+    first: usize,
+    count: usize,
+    own: u32,
+    bytes: &mut [u8],
+    position: Position,
+) -> Result<Position, Refusal>
+    requires { (first + count ≤ length operands.now) × (own ≤ size_range.high) × Room (count * id_bytes_most) bytes.old position }
+    ensures { Wrote (map (entry (under own)) (take count (drop first operands.now))) bytes.old bytes.new position result }
 {
-    for &id in operands {
-        sheet.put_operand(own, id)?;
+    let mut to = position;
+    for &id in &operands[first..first + count] {
+        to = put_operand(bytes, to, own, id)?;
     }
-    Ok(())
+    Ok(to)
 }
 
 // Writes node v, whose operands are those from `first` on.
 pub fn put_node(
-    sheet: &mut SheetOutput,
     nodes: &[u32],
     operands: &[u32],
     v: usize,
     first: usize,
     top: u32,
-) -> Result<(), Refusal>
+    bytes: &mut [u8],
+    position: Position,
+) -> Result<Position, Refusal>
     requires v_in_bounds { (node_place (v + 1) ≤ length nodes.now) × (v < size_range.high) × (first ≡ end_of nodes.now operands.now v) }
-    requires top_le_high { (top ≤ top_range.high) × Room node_bytes_most sheet.old }
-    ensures { Wrote (node_entries top nodes.now operands.now v) sheet.old sheet.new result }
+    requires top_le_high { (top ≤ top_range.high) × Room node_bytes_most bytes.old position }
+    ensures { Wrote (node_entries top nodes.now operands.now v) bytes.old bytes.new position result }
 {
     let count = end_of(nodes, operands, v).saturating_sub(first);
-    put_head(sheet, node_at(nodes, v), top, count)?;
-    put_operands(sheet, v as u32, &operands[first..first + count])
+    let position = put_head(node_at(nodes, v), top, count, bytes, position)?;
+    put_operands(operands, first, count, v as u32, bytes, position)
 }
 
 // Writes n nodes.
 pub fn put_nodes(
-    sheet: &mut SheetOutput,
     nodes: &[u32],
     operands: &[u32],
     n: usize,
     top: u32,
-) -> Result<(), Refusal>
-    requires { (node_place n ≤ length nodes.now) × (n ≤ size_range.high) × (top ≤ top_range.high) × Room (n * node_bytes_most) sheet.old }
-    ensures { Wrote (concat (map (node_entries top nodes.now operands.now) (below n))) sheet.old sheet.new result }
+    bytes: &mut [u8],
+    position: Position,
+) -> Result<Position, Refusal>
+    requires { (node_place n ≤ length nodes.now) × (n ≤ size_range.high) × (top ≤ top_range.high) × Room (n * node_bytes_most) bytes.old position }
+    ensures { Wrote (concat (map (node_entries top nodes.now operands.now) (below n))) bytes.old bytes.new position result }
 {
+    let mut to = position;
     let mut first = 0;
     for v in 0..n {
-        put_node(sheet, nodes, operands, v, first, top)?;
+        to = put_node(nodes, operands, v, first, top, bytes, to)?;
         first = end_of(nodes, operands, v);
     }
-    Ok(())
+    Ok(to)
 }
 
 // Writes m differences among n nodes.
 pub fn put_differences(
-    sheet: &mut SheetOutput,
     differences: &[u32],
     m: usize,
     n: u32,
-) -> Result<(), Refusal>
-    requires { (difference_place m ≤ length differences.now) × (0 < n) × (n ≤ size_range.high) × Room (m * difference_bytes_most) sheet.old }
-    ensures { Wrote (concat (map (difference_entries n differences.now) (below m))) sheet.old sheet.new result }
+    bytes: &mut [u8],
+    position: Position,
+) -> Result<Position, Refusal>
+    requires { (difference_place m ≤ length differences.now) × (0 < n) × (n ≤ size_range.high) × Room (m * difference_bytes_most) bytes.old position }
+    ensures { Wrote (concat (map (difference_entries n differences.now) (below m))) bytes.old bytes.new position result }
 {
+    let mut to = position;
     for j in 0..m {
-        put_difference(sheet, differences, j, n)?;
+        to = put_difference(differences, j, n, bytes, to)?;
     }
-    Ok(())
+    Ok(to)
 }
 
 // Writes k windows among n nodes.
 pub fn put_windows(
-    sheet: &mut SheetOutput,
     nodes: &[u32],
     windows: &[u32],
     k: usize,
     n: u32,
     period: u32,
-) -> Result<(), Refusal>
-    requires { (window_place k ≤ length windows.now) × (0 < n) × (n ≤ size_range.high) × (0 < period) × (period ≤ period_range.high) × Room (k * window_bytes_most) sheet.old }
-    ensures { Wrote (concat (map (window_entries n (box_at nodes.now) period windows.now) (below k))) sheet.old sheet.new result }
+    bytes: &mut [u8],
+    position: Position,
+) -> Result<Position, Refusal>
+    requires { (window_place k ≤ length windows.now) × (0 < n) × (n ≤ size_range.high) × (0 < period) × (period ≤ period_range.high) × Room (k * window_bytes_most) bytes.old position }
+    ensures { Wrote (concat (map (window_entries n (box_at nodes.now) period windows.now) (below k))) bytes.old bytes.new position result }
 {
+    let mut to = position;
     let mut low = 0;
     for j in 0..k {
-        put_window(sheet, nodes, windows, j, low, n, period)?;
+        to = put_window(nodes, windows, j, low, n, period, bytes, to)?;
         low = window_at(windows, j).id + 1;
     }
-    Ok(())
+    Ok(to)
 }
 
 // Writes the period and the windows of a sheet of n nodes.
 pub fn put_cycle(
-    sheet: &mut SheetOutput,
     nodes: &[u32],
     windows: &[u32],
     n: u32,
     period: u32,
-) -> Result<(), Refusal>
-    requires { (0 < n) × (n ≤ size_range.high) × Room cycle_bytes_most sheet.old }
-    ensures { Wrote (cycle_numbers n (box_at nodes.now) period (windows_in windows.now)) sheet.old sheet.new result }
+    bytes: &mut [u8],
+    position: Position,
+) -> Result<Position, Refusal>
+    requires { (0 < n) × (n ≤ size_range.high) × Room cycle_bytes_most bytes.old position }
+    ensures { Wrote (cycle_numbers n (box_at nodes.now) period (windows_in windows.now)) bytes.old bytes.new position result }
 {
     let k = window_count(windows);
-    put_period(sheet, period, k, n)?;
-    put_windows(sheet, nodes, windows, k, n, period)
+    let position = put_period(period, k, n, bytes, position)?;
+    put_windows(nodes, windows, k, n, period, bytes, position)
 }

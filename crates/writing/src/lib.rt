@@ -81,9 +81,10 @@ pub fn write_plan(
     requires small { Small latency n labels.now.steps labels.now.levels }
     requires rows { Rows n used.now cuts.now }
     requires bytes_len { length plan.old.bytes ≡ plan_most }
-    ensures { (plan.new.len ≡ length (flat_plan latency n labels.now.steps labels.now.levels used.now cuts.now))
+    ensures written { (plan.new.len ≡ length (flat_plan latency n labels.now.steps labels.now.levels used.now cuts.now))
         × (take plan.new.len plan.new.bytes ≡ flat_plan latency n labels.now.steps labels.now.levels used.now cuts.now)
         × (plan.new.len ≤ plan_most) }
+    ensures bytes_len { length plan.new.bytes ≡ plan_most }
 {
     plan.len = 0;
     plan.put(latency);

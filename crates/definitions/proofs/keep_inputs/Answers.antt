@@ -17,8 +17,8 @@ first_of T start at i e =
     let z : i + 0 ≡ i = omega arith in
     ap (λ (ws : List Word). get_or ws 0 []) e ∙ get_or-drop i (words_at T start) 0 [] ∙ ap (λ (j : ℕ). get_or (words_at T start) j []) z
 
-pub keep_node-at-requires : goal.keep_node-at-requires
-keep_node-at-requires c =
+pub keep_next-at-requires : goal.keep_next-at-requires
+keep_next-at-requires c =
     let o = c.loop in
     let l : o.counter < c.args.k = c.loop-test.true in
     let T = c.args.text.now in
@@ -41,7 +41,7 @@ loop-preserved c =
     let T = c.args.text.now in
     let ws = words_at T c.args.start in
     let m : c.args.k ≤ length ws = c.requires.k_in_bounds.0 in
-    let e = c.keep_node-at.ensures in (
+    let e = c.keep_next-at.ensures in (
       e.result_value ∙ ap (λ (ws : List Word). drop 1 ws) o.invariant.0 ∙ drop-drop 1 o.counter ws,
       λ ds k f. input-more ds ws o.counter c.args.k c.loop-test.true m (o.invariant.1 ds k f) (rw (sym (first_of T c.args.start o.at o.counter o.invariant.0)) e.added) e.size.0 e.size.1,
       omega (arith, e.size.0, o.invariant.2),

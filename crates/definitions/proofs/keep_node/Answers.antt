@@ -30,14 +30,15 @@ returns-clause-result_value c =
 pub returns-clause-added : goal.returns-clause-added
 returns-clause-added c =
     let T = c.args.text.now in
-    let k = c.args.circuit.now in
+    let n = c.args.size.nodes in
+    let used = c.args.size.operands in
     let r = c.append_reads-rest in
     let f = c.after_blanks-first in
     let a = c.add_name.ensures in
     let p = c.put_row.ensures in
     let w = word-here T c.args.start r.result f.result c.args.reads r.ensures.result_value c.requires.reads_in_bounds.0 f.ensures.0 in
     let x = definition (get_or (words_at T c.args.start) c.args.reads []) (kind_meant c.args.kind) (take c.args.reads (words_at T c.args.start)) in
-    let l : k.size.operands + c.args.reads ≡ k.size.operands + length x.reads =
+    let l : used + c.args.reads ≡ used + length x.reads =
     omega (arith, length-take-le c.args.reads (words_at T c.args.start) (omega (arith, c.requires.reads_in_bounds.0))) in
-    added x (k.size.operands + c.args.reads) l a.listed_2 (a.count_after ∙ ap (λ (v : Word). names_in k.names k.size.nodes ++ (v ∷ [])) w.0)
-    (p.0 ∙ ap (λ (row : NodeRow). take (node_place k.size.nodes) k.nodes ++ row_numbers row) c.row_of.ensures) r.ensures.operands_after.0 p.1 r.ensures.operands_after.1
+    added x (used + c.args.reads) l a.listed_2 (a.count_after ∙ ap (λ (v : Word). names_in c.args.names.now n ++ (v ∷ [])) w.0)
+    (p.0 ∙ ap (λ (row : NodeRow). take (node_place n) c.args.nodes.now ++ row_numbers row) c.row_of.ensures) r.ensures.operands_after.0 p.1 r.ensures.operands_after.1

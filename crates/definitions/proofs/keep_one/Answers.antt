@@ -16,5 +16,5 @@ returns c =
     let ws = words_at c.args.text.now c.args.rest in
     let x = definition (get_or ws c.args.reads []) (kind_meant c.args.kind) (take c.args.reads ws) in
     let l : length x.reads ≡ c.args.reads = length-take-le c.args.reads ws (omega (arith, c.requires.reads_in_bounds.0)) in
-    let e = c.keep_node.ensures in
+    let e = c.keep_next.ensures in
     λ ds q h f. kept-added q x (sym e.size.0) (ap (λ n. c.args.circuit.now.size.operands + n) l ∙ sym e.size.1) h (omega (arith, l, c.requires.reads_in_bounds.3)) e.added

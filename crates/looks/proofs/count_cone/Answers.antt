@@ -7,8 +7,8 @@ use Rattle.cone.specs.Walk.{marked}
 use Rattle.cone.proofs.Cones.{one-cone}
 use Rattle.looks.proofs.count_cone.Goals as goal
 
-pub returns : goal.returns
-returns c S C asked inside =
+pub returns-clause-counted : goal.returns-clause-counted
+returns-clause-counted c S C asked inside =
     let test = c.cut_fits-leaves.ensures.fit_test S asked in
     let fits = test.0 in
     let same = fun_ext (one-cone S (marked c.args.marks.now) c.args.v fits.cone C fits.is_cone inside) in (

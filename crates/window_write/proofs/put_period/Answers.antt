@@ -12,18 +12,18 @@ use Rattle.window_write.proofs.put_period.Goals as goal
 pub put_field-requires : goal.put_field-requires
 put_field-requires c = room-less (omega arith) c.requires.1
 
-pub returns-in_err-put_field : goal.returns-in_err-put_field
-returns-in_err-put_field c =
-    stopped (entry (among (windows_range c.args.n)) c.args.count ∷ []) c.from_residual.ensures.1 c.in_err-put_field.ensures
+pub returns-in_err-position : goal.returns-in_err-position
+returns-in_err-position c =
+    stopped (entry (among (windows_range c.args.n)) c.args.count ∷ []) c.from_residual.ensures.1 c.in_err-position.ensures
 
 pub put_in-requires : goal.put_in-requires
 put_in-requires c =
     let i = windows-right c.range_of.result _ c.args.n c.requires.0 c.range_of.ensures c.up_to.ensures in
-    let w = c.in_ok-put_field.ensures in
+    let w = c.in_ok-position.ensures in
     let most = within-bytes {n = c.args.n} {most = size_range.high} c.requires.0 in
     (omega (arith, i.1, c.requires.0), rw i.1 (room-left w (omega (arith, most)) c.requires.1))
 
 pub returns : goal.returns
 returns c =
     let i = windows-right c.range_of.result _ c.args.n c.requires.0 c.range_of.ensures c.up_to.ensures in
-    more c.in_ok-put_field.ensures (rw (i.0, i.1) at c.put_in.ensures)
+    more c.in_ok-position.ensures (rw (i.0, i.1) at c.put_in.ensures)

@@ -16,6 +16,9 @@ put_rows-requires-clause-row_bytes_most_in_bounds c =
     let f = c.put.ensures.put in
     omega (arith, f.near, f.wide, within-bytes c.requires.small.latest, c.requires.bytes_len)
 
-pub returns : goal.returns
-returns c =
+pub returns-clause-written : goal.returns-clause-written
+returns-clause-written c =
     put_first (put_then plan_most (omega arith) (put-most c.requires.small.latest c.put.ensures.put) c.put_rows.ensures)
+
+pub returns-clause-bytes_len : goal.returns-clause-bytes_len
+returns-clause-bytes_len c = omega (arith, c.put_rows.ensures.wide, c.put.ensures.put.wide, c.requires.bytes_len)

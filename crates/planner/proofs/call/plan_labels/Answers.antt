@@ -29,10 +29,10 @@ pub returns-clause-bytes_after : goal.returns-clause-bytes_after
 returns-clause-bytes_after c S d k ok =
     let labels = c.args.labels.now in
     planned labels.steps labels.levels k ok (c.latency-last.ensures S labels.levels k.tabled k.nodes) _ _ _
-    (c.cover.ensures.covered S d k (carrying labels.steps labels.levels k ok)) c.write_plan.ensures.1
+    (c.cover.ensures.covered S d k (carrying labels.steps labels.levels k ok)) c.write_plan.ensures.written.1
 
 pub returns-clause-upper_bound : goal.returns-clause-upper_bound
 returns-clause-upper_bound c =
-    let w = c.write_plan.ensures in
+    let w = c.write_plan.ensures.written in
     let n = c.write_plan.new.plan in
     (w.2, omega (arith, w.0, ap (λ (bytes : List ℕ). length bytes) w.1, length-take n.len n.bytes))

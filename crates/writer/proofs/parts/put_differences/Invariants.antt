@@ -7,4 +7,4 @@ use Rattle.fields.specs.Wrote.{Wrote}
 use Rattle.writer.proofs.parts.put_differences.Given as goal
 
 abbrev pub invariant-loop-j : goal.invariant-loop-j
-invariant-loop-j l = Wrote (concat (map (difference_entries l.n l.differences) (below l.j))) l.initial.sheet l.sheet (Ok tt)
+invariant-loop-j l = Wrote (concat (map (difference_entries l.n l.differences) (below l.j))) l.initial.bytes l.bytes l.initial.to (Ok l.to)

@@ -10,5 +10,5 @@ use Rattle.writer.proofs.parts.put_nodes.Given as goal
 abbrev pub invariant-loop-v : goal.invariant-loop-v
 invariant-loop-v l = record {
   begins : l.first ≡ end_of l.nodes l.operands l.v;
-  wrote : Wrote (concat (map (node_entries l.top l.nodes l.operands) (below l.v))) l.initial.sheet l.sheet (Ok tt);
+  wrote : Wrote (concat (map (node_entries l.top l.nodes l.operands) (below l.v))) l.initial.bytes l.bytes l.initial.to (Ok l.to);
 }

@@ -7,4 +7,4 @@ use Rattle.writer.proofs.NodeRows.{operand_in}
 use Rattle.writer.proofs.parts.put_operands.Given as goal
 
 abbrev pub invariant-loop-id : goal.invariant-loop-id
-invariant-loop-id l = Wrote (concat (map (operand_in l.own l.operands) (below l.id-index))) l.initial.sheet l.sheet (Ok tt)
+invariant-loop-id l = Wrote (concat (map (operand_in l.own l.id-items) (below l.id-index))) l.initial.bytes l.bytes l.initial.to (Ok l.to)

@@ -10,5 +10,5 @@ use Rattle.writer.proofs.parts.put_windows.Given as goal
 abbrev pub invariant-loop-j : goal.invariant-loop-j
 invariant-loop-j l = record {
   least : l.low ≡ low_in l.windows l.j;
-  wrote : Wrote (concat (map (window_entries l.n (box_at l.nodes) l.period l.windows) (below l.j))) l.initial.sheet l.sheet (Ok tt);
+  wrote : Wrote (concat (map (window_entries l.n (box_at l.nodes) l.period l.windows) (below l.j))) l.initial.bytes l.bytes l.initial.to (Ok l.to);
 }
